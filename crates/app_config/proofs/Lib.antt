@@ -1,0 +1,4 @@
+pub mod WordLaws
+pub mod PathLaws
+pub mod MatchLaws
+pub mod ReadLaws

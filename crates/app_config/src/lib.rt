@@ -1,0 +1,21 @@
+//! The configuration of an application's code loading: the text of `config/loader.conf`.
+//!
+//! [`read`] gives the configuration or the fault of the first line that has one; [`names`] says which paths a pattern
+//! names.
+#![tactic(auto)]
+
+mod config;
+mod entries;
+mod matching;
+mod operands;
+mod paths;
+mod patterns;
+mod reading;
+mod text;
+
+pub use config::{
+    Config, ConfigFault, ConfigKind, ConfigText, ConfigTexts, LoadLine, LoadLines, Patterns,
+    RootLine, RootLines, TextPairs,
+};
+pub use patterns::names;
+pub use reading::read;

@@ -1,0 +1,5 @@
+//! Cases of configurations.
+#![tactic(auto)]
+
+#[cfg(test)]
+mod tests;

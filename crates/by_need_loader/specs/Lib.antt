@@ -1,0 +1,4 @@
+pub mod Machine
+pub mod Ends
+pub mod Ring
+pub mod Steps

@@ -1,0 +1,300 @@
+//! Loads beside the rounds, from every part of what is known as table: all graphs of up to four tasks with up to two questions
+//! each, where each task ends by a value, an error or an end of the other kind.
+use by_need_graph::rounds::Answer;
+use by_need_graph::{Body, Ending, Graph, Values, known_values, load_beside_rounds, run_task};
+use by_need_loader::{Failure, Loaded};
+use std::alloc::{AllocError, Global};
+use std::test::Fail;
+
+/// The ending of a code below 3. The task's own number tells whose error it is.
+fn ending_of(task: u32, code: u32) -> Ending {
+    match code {
+        0 => Ending::Sum,
+        1 => Ending::Fail(task),
+        _ => Ending::Stop(task),
+    }
+}
+
+/// The questions of a choice among 1 + count + count²: none, one, or two, for tasks below the count.
+fn questions_of(alloc: Global, choice: u32, count: u32) -> Result<Vec<u32>, AllocError> {
+    let mut questions = Vec::new(alloc);
+    if 0 < choice && choice <= count {
+        questions.push(choice - 1)?;
+    } else if 0 < count && count < choice {
+        let pair = choice - 1 - count;
+        questions.push(pair / count)?;
+        questions.push(pair % count)?;
+    }
+    Ok(questions)
+}
+
+/// The graph of a number, which has a digit for each body: one of 3 (1 + count + count²).
+fn graph_of(alloc: Global, number: u32, count: u32) -> Result<Option<Graph>, AllocError> {
+    let choices = count
+        .wrapping_mul(count)
+        .wrapping_add(count)
+        .wrapping_add(1);
+    let mut bodies = Vec::new(alloc);
+    let mut rest = number;
+    for task in 0..count {
+        if choices == 0 {
+            break;
+        }
+        let questions = questions_of(alloc, rest % choices, count)?;
+        rest /= choices;
+        let ending = ending_of(task, rest % 3);
+        rest /= 3;
+        bodies.push(Body { questions, ending })?;
+    }
+    Ok(Graph::new(bodies))
+}
+
+/// The task that a task waits for; itself where it waits for none.
+fn asked_by(graph: &Graph, known: &[Option<u64>], task: u32) -> u32 {
+    match run_task(graph, task, known) {
+        Answer::Asks(asked) => asked,
+        _ => task,
+    }
+}
+
+/// Whether these are the tasks of the ring that a task is on, once each, as they ask, from the least.
+fn is_ring(graph: &Graph, known: &[Option<u64>], ring: &[u32], on: u32) -> bool {
+    let mut last = on;
+    let mut least = on;
+    for _ in 0..4 {
+        last = asked_by(graph, known, last);
+        least = least.min(last);
+    }
+    let mut wanted = least;
+    let mut is_turned = false;
+    for task in ring {
+        if is_turned || *task != wanted {
+            return false;
+        }
+        wanted = asked_by(graph, known, wanted);
+        is_turned = wanted == least;
+    }
+    is_turned
+}
+
+/// Whether a failure is what the questions of an unknown task lead to: four end, or are on a ring.
+fn is_blame(
+    graph: &Graph,
+    known: &[Option<u64>],
+    task: u32,
+    failure: &Failure<u32, u32, u32>,
+) -> bool {
+    let mut last = task;
+    for _ in 0..4 {
+        last = asked_by(graph, known, last);
+    }
+    match run_task(graph, last, known) {
+        Answer::Done(_) => false,
+        Answer::Raised(code) => match failure {
+            Failure::Raised(other) => *other == code,
+            _ => false,
+        },
+        Answer::Otherwise(code) => match failure {
+            Failure::Otherwise(other) => *other == code,
+            _ => false,
+        },
+        Answer::Asks(_) => match failure {
+            Failure::Circle(ring) => is_ring(graph, known, ring, last),
+            _ => false,
+        },
+    }
+}
+
+/// The known values of the tasks whose bit is set; None where one of those is not known.
+fn part_of(alloc: Global, known: &[Option<u64>], bits: u32) -> Result<Option<Values>, AllocError> {
+    let mut rest = bits;
+    for value in known {
+        if rest % 2 == 1 && value.is_none() {
+            return Ok(None);
+        }
+        rest /= 2;
+    }
+    let mut values = Vec::new(alloc);
+    rest = bits;
+    for value in known {
+        values.push(if rest % 2 == 1 { *value } else { None })?;
+        rest /= 2;
+    }
+    Ok(Some(Values { values }))
+}
+
+/// Whether a load over a part of what is known ends as the rounds say.
+fn agrees(
+    alloc: Global,
+    graph: &Graph,
+    known: &[Option<u64>],
+    mut table: Values,
+    task: u32,
+) -> Result<bool, AllocError> {
+    let value = match known.get(task as usize) {
+        None => None,
+        Some(value) => *value,
+    };
+    match load_beside_rounds(alloc, graph, &mut table, task)? {
+        None => Ok(false),
+        Some(Loaded::Done) => Ok(
+            value.is_some() && table.values.get(task as usize).copied() == Some(value),
+        ),
+        Some(Loaded::Failed(failure)) => Ok(
+            value.is_none() && is_blame(graph, known, task, &failure),
+        ),
+    }
+}
+
+/// Whether every load of a graph's tasks, from every part of what is known, ends as the rounds say.
+fn all_agree(alloc: Global, graph: &Graph, count: u32) -> Result<bool, AllocError> {
+    let known = known_values(alloc, graph)?;
+    for bits in 0..(1u32 << (count % 5)) {
+        for task in 0..count {
+            match part_of(alloc, &known, bits)? {
+                None => break,
+                Some(table) => {
+                    if !agrees(alloc, graph, &known, table, task)? {
+                        return Ok(false);
+                    }
+                }
+            }
+        }
+    }
+    Ok(true)
+}
+
+/// The number of the graphs from one number to another that agree.
+fn agreeing(alloc: Global, count: u32, from: u32, to: u32) -> Result<u32, AllocError> {
+    let mut agreeing = 0u32;
+    for number in from..to {
+        if let Some(graph) = graph_of(alloc, number, count)? {
+            if all_agree(alloc, &graph, count)? {
+                agreeing = agreeing.wrapping_add(1);
+            }
+        }
+    }
+    Ok(agreeing)
+}
+
+#[test]
+fn every_graph_of_up_to_two_tasks(rt: HostRuntime) -> Result<(), Fail> {
+    // 9 and (3 · 7)² graphs
+    let alloc = rt.alloc();
+    assert_eq!(rt; agreeing(alloc, 1, 0, 9)?, 9);
+    assert_eq!(rt; agreeing(alloc, 2, 0, 441)?, 441);
+    Ok(())
+}
+
+#[test]
+fn every_graph_of_three_tasks(rt: HostRuntime) -> Result<(), Fail> {
+    // (3 · 13)³ graphs
+    assert_eq!(rt; agreeing(rt.alloc(), 3, 0, 59_319)?, 59_319);
+    Ok(())
+}
+
+/// A ninth of the 63⁴ graphs of four tasks: those whose last body is one of seven of the 63.
+fn ninth_agrees(alloc: Global, part: u32) -> Result<bool, AllocError> {
+    let from = part.wrapping_mul(1_750_329);
+    Ok(agreeing(alloc, 4, from, from.wrapping_add(1_750_329))? == 1_750_329)
+}
+
+#[test]
+fn every_graph_of_four_tasks_the_first_ninth(rt: HostRuntime) -> Result<(), Fail> {
+    assert!(rt; ninth_agrees(rt.alloc(), 0)?);
+    Ok(())
+}
+
+#[test]
+fn every_graph_of_four_tasks_the_second_ninth(rt: HostRuntime) -> Result<(), Fail> {
+    assert!(rt; ninth_agrees(rt.alloc(), 1)?);
+    Ok(())
+}
+
+#[test]
+fn every_graph_of_four_tasks_the_third_ninth(rt: HostRuntime) -> Result<(), Fail> {
+    assert!(rt; ninth_agrees(rt.alloc(), 2)?);
+    Ok(())
+}
+
+#[test]
+fn every_graph_of_four_tasks_the_fourth_ninth(rt: HostRuntime) -> Result<(), Fail> {
+    assert!(rt; ninth_agrees(rt.alloc(), 3)?);
+    Ok(())
+}
+
+#[test]
+fn every_graph_of_four_tasks_the_fifth_ninth(rt: HostRuntime) -> Result<(), Fail> {
+    assert!(rt; ninth_agrees(rt.alloc(), 4)?);
+    Ok(())
+}
+
+#[test]
+fn every_graph_of_four_tasks_the_sixth_ninth(rt: HostRuntime) -> Result<(), Fail> {
+    assert!(rt; ninth_agrees(rt.alloc(), 5)?);
+    Ok(())
+}
+
+#[test]
+fn every_graph_of_four_tasks_the_seventh_ninth(rt: HostRuntime) -> Result<(), Fail> {
+    assert!(rt; ninth_agrees(rt.alloc(), 6)?);
+    Ok(())
+}
+
+#[test]
+fn every_graph_of_four_tasks_the_eighth_ninth(rt: HostRuntime) -> Result<(), Fail> {
+    assert!(rt; ninth_agrees(rt.alloc(), 7)?);
+    Ok(())
+}
+
+#[test]
+fn every_graph_of_four_tasks_the_last_ninth(rt: HostRuntime) -> Result<(), Fail> {
+    assert!(rt; ninth_agrees(rt.alloc(), 8)?);
+    Ok(())
+}
+
+#[test]
+fn a_ring_behind_a_tail_is_named_from_its_least(rt: HostRuntime) -> Result<(), Fail> {
+    // 0 asks for 4 and 3, 3 for 4 and 2, 2 for 1, 1 for 3, and 4 is done
+    let alloc = rt.alloc();
+    let bodies = vec![in alloc;
+        Body {
+            questions: vec![in alloc; 4, 3]?,
+            ending: Ending::Sum
+        },
+        Body {
+            questions: vec![in alloc; 3]?,
+            ending: Ending::Sum
+        },
+        Body {
+            questions: vec![in alloc; 1]?,
+            ending: Ending::Sum
+        },
+        Body {
+            questions: vec![in alloc; 4, 2]?,
+            ending: Ending::Sum
+        },
+        Body {
+            questions: vec![in alloc]?,
+            ending: Ending::Sum
+        },
+    ]?;
+    let Some(graph) = Graph::new(bodies) else {
+        assert!(rt; false);
+        return Ok(());
+    };
+    let mut table = Values {
+        values: vec![in alloc; None; 5]?,
+    };
+    match load_beside_rounds(alloc, &graph, &mut table, 0)? {
+        Some(Loaded::Failed(Failure::Circle(ring))) => {
+            assert_eq!(rt; ring.as_slice(), [1, 3, 2].as_slice());
+        }
+        _ => assert!(rt; false),
+    }
+    assert_eq!(rt;
+        table.values.as_slice(),
+        [None, None, None, None, Some(1)].as_slice()
+    );
+    Ok(())
+}

@@ -1,0 +1,3 @@
+pub mod listed
+pub mod shared
+pub mod shared_list

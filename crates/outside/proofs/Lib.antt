@@ -1,0 +1,4 @@
+pub mod ToldLaws
+pub mod Pieces
+pub mod TableLaws
+pub mod TreeLaws

@@ -1,0 +1,16 @@
+pub mod Order
+pub mod Faults
+pub mod Told
+pub mod ReadAns
+pub mod WriteAns
+pub mod Written
+pub mod Watched
+pub mod Tree
+pub mod StampsAns
+pub mod TreeAns
+pub mod CallState
+pub mod Calls
+pub mod MemoryStates
+pub mod Table
+pub mod Glance
+pub mod MemTree

@@ -1,0 +1,13 @@
+pub mod OperatorRows
+pub mod Words
+pub mod Magnitude
+pub mod Longest
+pub mod Runs
+pub mod Singles
+pub mod Best
+pub mod Sound
+pub mod ReadingLaws
+pub mod Cuts
+pub mod Front
+pub mod SpanLaws
+pub mod Outcomes

@@ -1,0 +1,11 @@
+pub mod Bytes
+pub mod Opens
+pub mod Operators
+pub mod Number
+pub mod State
+pub mod Lexemes
+pub mod Cut
+pub mod Spans
+pub mod Lengths
+pub mod Steps
+pub mod Reading

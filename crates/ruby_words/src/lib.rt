@@ -1,0 +1,279 @@
+//! The words of Ruby that are no names, with their codes: the 17 that the profile reserves and the 30 that it leaves out.
+#![tactic(auto)]
+
+ghost use Rattle.std.specs.Prelude.{◌≡◌, ◌≤◌, ◌↔◌, IsTrue};
+ghost use Rattle.ruby_words.specs.Words.{word_rows};
+
+use case_table::{Case, CaseTable};
+
+pub const MODULE: u16 = 1;
+
+pub const CLASS: u16 = 2;
+
+pub const DEF: u16 = 3;
+
+pub const END: u16 = 4;
+
+pub const IF: u16 = 5;
+
+pub const ELSIF: u16 = 6;
+
+pub const ELSE: u16 = 7;
+
+pub const UNLESS: u16 = 8;
+
+pub const THEN: u16 = 9;
+
+pub const RETURN: u16 = 10;
+
+pub const SELF: u16 = 11;
+
+pub const NIL: u16 = 12;
+
+pub const TRUE: u16 = 13;
+
+pub const FALSE: u16 = 14;
+
+pub const RAISE: u16 = 15;
+
+pub const INCLUDE: u16 = 16;
+
+pub const ATTR_READER: u16 = 17;
+
+/// The last code of a reserved word. Those of the left-out words are greater.
+pub const LAST_RESERVED: u16 = 17;
+
+/// The words in the order of their bytes.
+static ROWS: [Case; 47] = [
+    Case {
+        name: b"alias",
+        code: 18,
+    },
+    Case {
+        name: b"and",
+        code: 19,
+    },
+    Case {
+        name: b"attr_accessor",
+        code: 47,
+    },
+    Case {
+        name: b"attr_reader",
+        code: ATTR_READER,
+    },
+    Case {
+        name: b"attr_writer",
+        code: 46,
+    },
+    Case {
+        name: b"begin",
+        code: 20,
+    },
+    Case {
+        name: b"break",
+        code: 21,
+    },
+    Case {
+        name: b"case",
+        code: 22,
+    },
+    Case {
+        name: b"class",
+        code: CLASS,
+    },
+    Case {
+        name: b"def",
+        code: DEF,
+    },
+    Case {
+        name: b"do",
+        code: 23,
+    },
+    Case {
+        name: b"else",
+        code: ELSE,
+    },
+    Case {
+        name: b"elsif",
+        code: ELSIF,
+    },
+    Case {
+        name: b"end",
+        code: END,
+    },
+    Case {
+        name: b"ensure",
+        code: 24,
+    },
+    Case {
+        name: b"extend",
+        code: 25,
+    },
+    Case {
+        name: b"false",
+        code: FALSE,
+    },
+    Case {
+        name: b"for",
+        code: 26,
+    },
+    Case {
+        name: b"if",
+        code: IF,
+    },
+    Case {
+        name: b"in",
+        code: 27,
+    },
+    Case {
+        name: b"include",
+        code: INCLUDE,
+    },
+    Case {
+        name: b"module",
+        code: MODULE,
+    },
+    Case {
+        name: b"next",
+        code: 28,
+    },
+    Case {
+        name: b"nil",
+        code: NIL,
+    },
+    Case {
+        name: b"not",
+        code: 29,
+    },
+    Case {
+        name: b"or",
+        code: 30,
+    },
+    Case {
+        name: b"prepend",
+        code: 31,
+    },
+    Case {
+        name: b"private",
+        code: 32,
+    },
+    Case {
+        name: b"protected",
+        code: 33,
+    },
+    Case {
+        name: b"public",
+        code: 34,
+    },
+    Case {
+        name: b"raise",
+        code: RAISE,
+    },
+    Case {
+        name: b"redo",
+        code: 35,
+    },
+    Case {
+        name: b"require",
+        code: 36,
+    },
+    Case {
+        name: b"require_relative",
+        code: 37,
+    },
+    Case {
+        name: b"rescue",
+        code: 38,
+    },
+    Case {
+        name: b"retry",
+        code: 39,
+    },
+    Case {
+        name: b"return",
+        code: RETURN,
+    },
+    Case {
+        name: b"self",
+        code: SELF,
+    },
+    Case {
+        name: b"super",
+        code: 40,
+    },
+    Case {
+        name: b"then",
+        code: THEN,
+    },
+    Case {
+        name: b"true",
+        code: TRUE,
+    },
+    Case {
+        name: b"undef",
+        code: 41,
+    },
+    Case {
+        name: b"unless",
+        code: UNLESS,
+    },
+    Case {
+        name: b"until",
+        code: 42,
+    },
+    Case {
+        name: b"when",
+        code: 43,
+    },
+    Case {
+        name: b"while",
+        code: 44,
+    },
+    Case {
+        name: b"yield",
+        code: 45,
+    },
+];
+
+/// The table of these words. It takes no memory.
+pub fn ruby_words() -> CaseTable<47>
+    ensures { result ≡ word_rows }
+{
+    match CaseTable::new(ROWS) {
+        Ok(table) => table,
+        Err(_) => unreachable!(),
+    }
+}
+
+/// Whether the code is that of a reserved word, and not of one that is left out.
+pub fn is_reserved(code: u16) -> bool
+    ensures { IsTrue result ↔ (code ≤ 17) }
+{
+    code <= LAST_RESERVED
+}
+
+#[cfg(test)]
+mod tests {
+    use super::*;
+    use case_table::cases;
+
+    #[test]
+    fn words_are_chosen_by_their_codes(rt: HostRuntime) {
+        let words = ruby_words();
+        for (name, code) in [
+            (b"module".as_slice(), 1),
+            (b"attr_reader", 17),
+            (b"alias", 18),
+            (b"attr_accessor", 47),
+        ] {
+            assert_eq!(rt; words.find(name), Some(code));
+        }
+        for name in [b"".as_slice(), b"Module", b"model", b"puts", b"yields"] {
+            assert_eq!(rt; words.find(name), None);
+        }
+        let kind = cases!(words.find(b"end"); END => 'e', DEF => 'd'; '-');
+        assert_eq!(rt; kind, 'e');
+        assert!(rt; is_reserved(ATTR_READER));
+        assert!(rt; !is_reserved(18));
+    }
+}

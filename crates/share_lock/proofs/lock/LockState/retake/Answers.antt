@@ -1,0 +1,6 @@
+use Rattle.std.proofs.Common.{sym}
+use Rattle.share_lock.proofs.Sound.{IsSound-restore}
+use Rattle.share_lock.proofs.lock.LockState.retake.Goals as goal
+
+pub invariant_of-self : goal.invariant_of-self
+invariant_of-self c = IsSound-restore _ _ c.args.seat _ c.self.view_is c.self.invariant c.requires.seat (sym c.if-another_owns.ensures) c.restore.ensures

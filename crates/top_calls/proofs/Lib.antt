@@ -1,0 +1,5 @@
+mod Commands
+mod NotBuilt
+mod Numbers
+mod Slashes
+mod Outputs

@@ -1,0 +1,63 @@
+-- When a command answers that something is not built yet.
+use Rattle.std.proofs.Common.{◌≡◌, ◌⊎◌, inl, inr, ℕ, List, Option, Some, None, IfSome, Bool, true, false, ◌==◌, if◌then◌else◌, All, refl, sym, ap, ◌∙◌, subst}
+use Rattle.outside.specs.declared.files.FileEntry.{FileEntry}
+use Rattle.load_rules.specs.FirstReply.{IsReadable}
+use Rattle.top_calls.specs.Words.{IsCommandLine}
+use Rattle.top_calls.specs.Limits.{IsWithinLimits}
+use Rattle.top_calls.specs.Output.{code_of, IsFirstGet, IsOtherApplication, IsNotBuilt, IsFault, Answer, other_application, replies, Output, faulty_words, other_command, answers, WritesOn}
+use Rattle.top_calls.specs.declared.words.CommandName.TheVariants.{Get}
+use Rattle.top_calls.specs.declared.status.Status.{Status}
+use Rattle.top_calls.specs.declared.status.Status.TheVariants.{Done, Negative, FaultyWords, TreeFault, WriteFault, Memory, NotBuilt}
+
+-- a reply has another status
+reply_is_built : (done : Bool) → ◌≡◌ {A = Status} (if done then Done else Negative) NotBuilt → ⊥
+reply_is_built true e = cc
+reply_is_built false e = cc
+
+-- an answer with a reply is another
+answer_is_not_built : (files : List FileEntry) (controller action output : List ℕ) (own : Status) → Answer files controller action output own → own ≡ NotBuilt → IsOtherApplication files
+answer_is_not_built files controller action output own (other_application other) e = other
+answer_is_not_built files controller action output own (replies reply within readable first) e = absurd (reply_is_built (reply.status == 200) e)
+
+output_is_not_built : (words : List (List ℕ)) (files : List FileEntry) (output : List ℕ) (own : Status) → Output words files output own → own ≡ NotBuilt → IsNotBuilt words files
+output_is_not_built words files output own (faulty_words faulty) e = absurd (let f : ◌≡◌ {A = Status} FaultyWords NotBuilt = e in cc)
+output_is_not_built words files output own (other_command other) e = inl other
+output_is_not_built words files output own (answers controller action out status get answer) e = inr (controller, action, get, answer_is_not_built files controller action out status answer e)
+
+pub not_built_is : (words : List (List ℕ)) (held : Option (List FileEntry)) (status : Status) (before now : Option (List ℕ)) → WritesOn held (Output words) status before now
+    → IfSome held (λ files. code_of status ≡ 11 → IsNotBuilt words files)
+not_built_is words None status before now w = tt
+not_built_is words (Some files) Done before now w = λ e. absurd (let f : 0 ≡ 11 = e in cc)
+not_built_is words (Some files) Negative before now w = λ e. absurd (let f : 1 ≡ 11 = e in cc)
+not_built_is words (Some files) FaultyWords before now w = λ e. absurd (let f : 2 ≡ 11 = e in cc)
+not_built_is words (Some files) TreeFault before now w = λ e. absurd (let f : 3 ≡ 11 = e in cc)
+not_built_is words (Some files) WriteFault before now w = λ e. absurd (let f : 4 ≡ 11 = e in cc)
+not_built_is words (Some files) Memory before now w = λ e. absurd (let f : 5 ≡ 11 = e in cc)
+not_built_is words (Some files) NotBuilt before now w = λ e. output_is_not_built words files w.0 w.1 w.2 (sym w.3.0)
+
+get_is_command_line : (words : List (List ℕ)) (controller action : List ℕ) → IsFirstGet words controller action → IsCommandLine words
+get_is_command_line words controller action get = subst IsCommandLine (sym get.1) (Get, (refl, get.2))
+
+readable_is_no_other : (files : List FileEntry) → IsWithinLimits files → All IsReadable files → ¬ (IsOtherApplication files)
+readable_is_no_other files within readable (inl large) = large within
+readable_is_no_other files within readable (inr (k, file, here, is, unread)) = unread (subst IsReadable is (readable k file here))
+
+-- what is not built has that status
+not_built_status : (words : List (List ℕ)) (files : List FileEntry) (output : List ℕ) (own : Status) → IsNotBuilt words files → Output words files output own → own ≡ NotBuilt
+not_built_status words files output own (inl other) (faulty_words faulty) = absurd (faulty other.0)
+not_built_status words files output own (inr (controller, action, get, other)) (faulty_words faulty) = absurd (faulty (get_is_command_line words controller action get))
+not_built_status words files output own n (other_command other) = refl
+not_built_status words files output own n (answers controller action out status get (other_application other)) = refl
+not_built_status words files output own (inl other) (answers controller action out status get (replies reply within readable first)) = absurd (other.1 controller action get)
+not_built_status words files output own (inr (c, a, g, other)) (answers controller action out status get (replies reply within readable first)) = absurd (readable_is_no_other files within readable other)
+
+pub is_not_built : (words : List (List ℕ)) (held : Option (List FileEntry)) (status : Status) (before now : Option (List ℕ)) → WritesOn held (Output words) status before now
+    → IfSome held (λ files. IsNotBuilt words files → (code_of status ≡ 11) ⊎ IsFault (code_of status))
+is_not_built words None status before now w = tt
+is_not_built words (Some files) Done before now w = λ n. inl (ap code_of (w.3.0 ∙ not_built_status words files w.0 w.1 n w.2))
+is_not_built words (Some files) Negative before now w = λ n. inl (ap code_of (w.3.0 ∙ not_built_status words files w.0 w.1 n w.2))
+is_not_built words (Some files) FaultyWords before now w = λ n. inl (ap code_of (w.3.0 ∙ not_built_status words files w.0 w.1 n w.2))
+is_not_built words (Some files) TreeFault before now w = λ n. inr (inl refl)
+is_not_built words (Some files) WriteFault before now w = λ n. inr (inr (inl refl))
+is_not_built words (Some files) Memory before now w = λ n. inr (inr (inr refl))
+is_not_built words (Some files) NotBuilt before now w = λ n. inl refl

@@ -1,0 +1,131 @@
+-- How an answer's output was written.
+use Rattle.std.proofs.Common.{◌≡◌, ◌⊎◌, inl, inr, ℕ, zero, suc, ◌<◌, ◌≤◌, ◌^◌, List, [], ◌∷◌, length, map, All, Option, Some, None, IfSome, ◌==◌, slice_index_or, append-nil, refl, sym, ap, subst, arith}
+use Rattle.std.specs.List.{sum}
+use Rattle.std.proofs.lemmas.Grind.{common_steps}
+use Rattle.outside.specs.Faults.{Counts}
+use Rattle.outside.specs.declared.files.FileEntry.{FileEntry}
+use Rattle.ruby_types.specs.declared.request.Reply.{Reply}
+use Rattle.load_rules.specs.FirstReply.{FirstReply, no_controller, cut_off, no_action, answers as answers_text, IsReadable}
+use Rattle.outside.specs.Told.{appended}
+use Rattle.top_calls.specs.Words.{IsCommandLine}
+use Rattle.top_calls.specs.Limits.{IsWithinLimits}
+use Rattle.top_calls.specs.Response.{response_bytes}
+use Rattle.top_calls.specs.Output.{code_of, IsOfAnswer, IsFirstGet, IsOtherCommand, Output, faulty_words, other_command, answers, WritesOn, IsOtherApplication, Answer, other_application, replies, Writes, WritesOne, not_built_line, generation_of, status_of}
+use Rattle.top_calls.specs.declared.status.Status.{Status}
+use Rattle.top_calls.specs.declared.status.Status.TheVariants.{Done, Negative, FaultyWords, TreeFault, WriteFault, Memory, NotBuilt}
+
+pub one_written : (Is : List ℕ → Status → Type 0) (output : List ℕ) (own status : Status) (before now : Option (List ℕ)) → Is output own → Writes output own status before now → WritesOne Is status before now
+one_written Is output own Done before now p w = (output, own, p, w)
+one_written Is output own Negative before now p w = (output, own, p, w)
+one_written Is output own FaultyWords before now p w = (output, own, p, w)
+one_written Is output own TreeFault before now p w = (output, own, p, w)
+one_written Is output own WriteFault before now p w = (output, own, p, w)
+one_written Is output own Memory before now p w = w
+one_written Is output own NotBuilt before now p w = (output, own, p, w)
+
+pub other_application_written : (files : List FileEntry) (controller action : List ℕ) (status : Status) (before now : Option (List ℕ)) → IsOtherApplication files
+    → Writes not_built_line NotBuilt status before now → WritesOne (Answer files controller action) status before now
+other_application_written files controller action status before now other w =
+    one_written (Answer files controller action) not_built_line NotBuilt status before now (other_application other) w
+
+pub reply_written : (files : List FileEntry) (controller action : List ℕ) (reply : Reply) (status : Status) (before now : Option (List ℕ)) → IsWithinLimits files → All IsReadable files
+    → FirstReply files controller action reply → Writes (response_bytes reply (generation_of files)) (status_of reply) status before now → WritesOne (Answer files controller action) status before now
+reply_written files controller action reply status before now within readable first w =
+    one_written (Answer files controller action) (response_bytes reply (generation_of files)) (status_of reply) status before now (replies reply within readable first) w
+
+pub known_status : (files : List FileEntry) (controller action : List ℕ) (reply : Reply) → FirstReply files controller action reply → (reply.status ≡ 200) ⊎ (reply.status ≡ 404) ⊎ (reply.status ≡ 500)
+known_status files controller action reply (no_controller none) = inr (inl refl)
+known_status files controller action reply (cut_off file is cut) = inr (inr refl)
+known_status files controller action reply (no_action file parts is text other) = inr (inl refl)
+known_status files controller action reply (answers_text file parts is text same) = inl refl
+
+member_fits : (files : List FileEntry) (k : ℕ) (d : FileEntry) → k < length files → length (slice_index_or files k d).bytes ≤ sum (map (λ (f : FileEntry). length f.bytes) files)
+member_fits [] k d h = grind (arith, common_steps)
+member_fits (file ∷ files) zero d h = grind (arith, common_steps)
+member_fits (file ∷ files) (suc k) d h = let rest = member_fits files k d (grind (arith, common_steps)) in grind (arith, common_steps)
+
+pub small_files : (files : List FileEntry) → IsWithinLimits files → All (λ (file : FileEntry). length file.bytes < 2 ^ 32) files
+small_files files within = λ k d h. let fits = member_fits files k d h in let all = within.bytes in omega arith
+
+-- an output on whichever files the tree holds
+on_any : (Is : List FileEntry → List ℕ → Status → Type 0) (held : Option (List FileEntry)) (status : Status) (before now : Option (List ℕ))
+    → IsOfAnswer status → ((files : List FileEntry) → held ≡ Some files → WritesOne (Is files) status before now) → (status ≡ Memory → now ≡ before) → WritesOn held Is status before now
+on_any Is None Done before now own w m = tt
+on_any Is None Negative before now own w m = tt
+on_any Is None FaultyWords before now own w m = absurd own
+on_any Is None TreeFault before now own w m = absurd own
+on_any Is None WriteFault before now own w m = tt
+on_any Is None Memory before now own w m = m refl
+on_any Is None NotBuilt before now own w m = tt
+on_any Is (Some all) Done before now own w m = w all refl
+on_any Is (Some all) Negative before now own w m = w all refl
+on_any Is (Some all) FaultyWords before now own w m = absurd own
+on_any Is (Some all) TreeFault before now own w m = absurd own
+on_any Is (Some all) WriteFault before now own w m = w all refl
+on_any Is (Some all) Memory before now own w m = m refl
+on_any Is (Some all) NotBuilt before now own w m = w all refl
+
+nothing_without_memory : (Is : List ℕ → Status → Type 0) (status : Status) (before now : Option (List ℕ)) → WritesOne Is status before now → status ≡ Memory → now ≡ before
+nothing_without_memory Is status before now w e = let P : Status → Type 0 = λ s. WritesOne Is s before now in subst P e w
+
+-- an output on the files that the tree holds
+pub written_on : (Is : List FileEntry → List ℕ → Status → Type 0) (held : Option (List FileEntry)) (files : List FileEntry) (status : Status) (before now : Option (List ℕ))
+    → IfSome held (λ all. files ≡ all) → IsOfAnswer status → WritesOne (Is files) status before now → WritesOn held Is status before now
+written_on Is held files status before now same own w =
+    on_any Is held status before now own (λ all is. let here : files ≡ all = (let P : Option (List FileEntry) → Type 0 = λ h. IfSome h (λ f. files ≡ f) in subst P is same) in
+    subst (λ f. WritesOne (Is f) status before now) here w)
+    (nothing_without_memory (Is files) status before now w)
+
+-- a command that is not built
+pub other_command_written : (words : List (List ℕ)) (held : Option (List FileEntry)) (status : Status) (before now : Option (List ℕ)) → IsOtherCommand words → IsOfAnswer status
+    → Writes not_built_line NotBuilt status before now → WritesOn held (Output words) status before now
+other_command_written words held status before now other own w =
+    on_any (Output words) held status before now own (λ files is. one_written (Output words files) not_built_line NotBuilt status before now (other_command other) w)
+    (λ e. let P : Status → Type 0 = λ s. Writes not_built_line NotBuilt s before now in subst P e w)
+
+answered : (words : List (List ℕ)) (controller action : List ℕ) (files : List FileEntry) (status : Status) (before now : Option (List ℕ)) → IsFirstGet words controller action
+    → WritesOne (Answer files controller action) status before now → WritesOne (Output words files) status before now
+answered words controller action files Done before now get w = (w.0, w.1, answers controller action w.0 w.1 get w.2, w.3)
+answered words controller action files Negative before now get w = (w.0, w.1, answers controller action w.0 w.1 get w.2, w.3)
+answered words controller action files FaultyWords before now get w = (w.0, w.1, answers controller action w.0 w.1 get w.2, w.3)
+answered words controller action files TreeFault before now get w = (w.0, w.1, answers controller action w.0 w.1 get w.2, w.3)
+answered words controller action files WriteFault before now get w = (w.0, w.1, answers controller action w.0 w.1 get w.2, w.3)
+answered words controller action files Memory before now get w = w
+answered words controller action files NotBuilt before now get w = (w.0, w.1, answers controller action w.0 w.1 get w.2, w.3)
+
+-- a request that is answered
+pub request_written : (words : List (List ℕ)) (controller action : List ℕ) (held : Option (List FileEntry)) (status : Status) (before now : Option (List ℕ)) → IsFirstGet words controller action
+    → WritesOn held (λ files. Answer files controller action) status before now → WritesOn held (Output words) status before now
+request_written words controller action None Done before now get w = tt
+request_written words controller action None Negative before now get w = tt
+request_written words controller action None FaultyWords before now get w = tt
+request_written words controller action None TreeFault before now get w = w
+request_written words controller action None WriteFault before now get w = tt
+request_written words controller action None Memory before now get w = w
+request_written words controller action None NotBuilt before now get w = tt
+request_written words controller action (Some all) Done before now get w = answered words controller action all Done before now get w
+request_written words controller action (Some all) Negative before now get w = answered words controller action all Negative before now get w
+request_written words controller action (Some all) FaultyWords before now get w = answered words controller action all FaultyWords before now get w
+request_written words controller action (Some all) TreeFault before now get w = w
+request_written words controller action (Some all) WriteFault before now get w = answered words controller action all WriteFault before now get w
+request_written words controller action (Some all) Memory before now get w = w
+request_written words controller action (Some all) NotBuilt before now get w = answered words controller action all NotBuilt before now get w
+
+appended_nothing : (before : Option (List ℕ)) → before ≡ appended before []
+appended_nothing None = refl
+appended_nothing (Some all) = ap Some (sym (append-nil all))
+
+-- faulty words write nothing
+pub faulty_words_written : (words : List (List ℕ)) (held : Option (List FileEntry)) (before : Option (List ℕ)) → ¬ (IsCommandLine words) → WritesOn held (Output words) FaultyWords before before
+faulty_words_written words None before faulty = tt
+faulty_words_written words (Some all) before faulty = ([], FaultyWords, faulty_words faulty, (refl, appended_nothing before))
+
+-- the count stood still
+pub no_tree_fault : (status : Status) (before now : ℕ) → IsOfAnswer status → now ≡ before → Counts (code_of status == 3) before now
+no_tree_fault Done before now own same = same
+no_tree_fault Negative before now own same = same
+no_tree_fault FaultyWords before now own same = same
+no_tree_fault TreeFault before now own same = absurd own
+no_tree_fault WriteFault before now own same = same
+no_tree_fault Memory before now own same = same
+no_tree_fault NotBuilt before now own same = same

@@ -1,0 +1,90 @@
+-- What a command writes, and how it ends.
+use Rattle.std.specs.Prelude.{◌≡◌, ◌⊎◌, ℕ, ◌<◌, ◌==◌, List, [], ◌∷◌, ◌++◌, length, take, codes, All, Any, Option, IfSome, if◌then◌else◌, ⊤}
+use Rattle.outside.specs.Told.{appended}
+use Rattle.outside.specs.declared.files.FileEntry.{FileEntry}
+use Rattle.ruby_types.specs.declared.request.Reply.{Reply}
+use Rattle.load_rules.specs.FirstReply.{IsReadable, FirstReply}
+use Rattle.top_calls.specs.Words.{IsCommandLine, IsTarget}
+use Rattle.top_calls.specs.Target.{IsFirstTarget}
+use Rattle.top_calls.specs.Limits.{IsWithinLimits}
+use Rattle.top_calls.specs.Response.{response_bytes}
+use Rattle.top_calls.specs.declared.status.Status.{Status}
+use Rattle.top_calls.specs.declared.status.Status.TheVariants.{Done, Negative, FaultyWords, TreeFault, WriteFault, Memory, NotBuilt}
+
+-- the exit status
+abbrev pub code_of : Status → ℕ
+code_of Done = 0
+code_of Negative = 1
+code_of FaultyWords = 2
+code_of TreeFault = 3
+code_of WriteFault = 4
+code_of Memory = 5
+code_of NotBuilt = 11
+
+-- the words are `get TARGET`, and the target is `/CONTROLLER/ACTION`
+abbrev pub IsFirstGet : List (List ℕ) → (controller action : List ℕ) → Type 0
+IsFirstGet words controller action = (target : List ℕ) × (words ≡ codes "get" ∷ target ∷ []) × IsTarget target × IsFirstTarget target controller action
+
+-- the words are another command, or they are `get` with another target
+abbrev pub IsOtherCommand : List (List ℕ) → Type 0
+IsOtherCommand words = IsCommandLine words × ((controller action : List ℕ) → ¬ (IsFirstGet words controller action))
+
+-- the application is too large, or some file is not readable
+abbrev pub IsOtherApplication : List FileEntry → Type 0
+IsOtherApplication files = ¬ (IsWithinLimits files) ⊎ Any (λ file. ¬ (IsReadable file)) files
+
+-- what was asked for on these files is not built yet
+abbrev pub IsNotBuilt : List (List ℕ) → List FileEntry → Type 0
+IsNotBuilt words files = IsOtherCommand words ⊎ ((controller action : List ℕ) × IsFirstGet words controller action × IsOtherApplication files)
+
+-- a fault of the tree, of the sink or of memory
+abbrev pub IsFault : (code : ℕ) → Type 0
+IsFault code = (code ≡ 3) ⊎ ((code ≡ 4) ⊎ (code ≡ 5))
+
+abbrev pub not_built_line : List ℕ
+not_built_line = codes "not built yet" ++ 10 ∷ []
+
+-- generation 0 has no files; the first reload makes generation 1
+abbrev pub generation_of : List FileEntry → ℕ
+generation_of [] = 0
+generation_of (file ∷ files) = 1
+
+abbrev pub status_of : Reply → Status
+status_of reply = if reply.status == 200 then Done else Negative
+
+-- The output of `get /CONTROLLER/ACTION` on an application's files, and its status.
+pub data Answer (files : List FileEntry) (controller action : List ℕ) : List ℕ → Status → Type 0 where
+  other_application : IsOtherApplication files → Answer files controller action not_built_line NotBuilt
+  replies : (reply : Reply) → IsWithinLimits files → All IsReadable files → FirstReply files controller action reply
+      → Answer files controller action (response_bytes reply (generation_of files)) (status_of reply)
+
+-- The output of a command line on an application's files, and its status.
+pub data Output (words : List (List ℕ)) (files : List FileEntry) : List ℕ → Status → Type 0 where
+  faulty_words : ¬ (IsCommandLine words) → Output words files [] FaultyWords
+  other_command : IsOtherCommand words → Output words files not_built_line NotBuilt
+  answers : (controller action output : List ℕ) (own : Status) → IsFirstGet words controller action → Answer files controller action output own
+      → Output words files output own
+
+-- a status that an answer can have, once the files are read
+abbrev pub IsOfAnswer : Status → Type 0
+IsOfAnswer FaultyWords = ⊥
+IsOfAnswer TreeFault = ⊥
+IsOfAnswer status = ⊤
+
+-- The output was written and the status is its own. Where a write failed, some of it was written, from its front and not
+-- all. After want of memory nothing was.
+abbrev pub Writes : (output : List ℕ) (own : Status) → Status → (before now : Option (List ℕ)) → Type 0
+Writes output own Memory before now = now ≡ before
+Writes output own WriteFault before now = (n : ℕ) × (n < length output) × (now ≡ appended before (take n output))
+Writes output own status before now = (status ≡ own) × (now ≡ appended before output)
+
+-- an output of which this holds was written so
+abbrev pub WritesOne : (List ℕ → Status → Type 0) → Status → (before now : Option (List ℕ)) → Type 0
+WritesOne Is Memory before now = now ≡ before
+WritesOne Is status before now = (output : List ℕ) × (own : Status) × Is output own × Writes output own status before now
+
+-- What was written where the files were asked for: nothing where they could not be read, else their output.
+abbrev pub WritesOn : (Option (List FileEntry)) → (List FileEntry → List ℕ → Status → Type 0) → Status → (before now : Option (List ℕ)) → Type 0
+WritesOn held Is TreeFault before now = now ≡ before
+WritesOn held Is Memory before now = now ≡ before
+WritesOn held Is status before now = IfSome held (λ files. WritesOne (Is files) status before now)

@@ -1,0 +1,81 @@
+-- Which command lines there are, without the program's name.
+use Rattle.std.specs.Prelude.{◌≡◌, ◌≢◌, ℕ, ◌≤◌, List, [], ◌∷◌, Option, Some, None, All, codes, if◌then◌else◌, ⊤}
+use Rattle.std.specs.Fmt.{decimal}
+use Rattle.std.specs.Str.{IsUtf8, bytes_eq}
+use Rattle.top_calls.specs.declared.words.CommandName.{CommandName}
+use Rattle.top_calls.specs.declared.words.CommandName.TheVariants.{Get, Check, Tree, Replay, Demo, Serve}
+
+-- a request's target: it begins with `/` and has visible ASCII bytes alone
+abbrev pub IsTarget : List ℕ → Type 0
+IsTarget word = ((rest : List ℕ) × (word ≡ 47 ∷ rest)) × All (λ b. (33 ≤ b) × (b ≤ 126)) word
+
+-- a number from 1 to `most`, in decimal digits without a leading 0
+abbrev pub IsNumber : (most : ℕ) → List ℕ → Type 0
+IsNumber most word = (n : ℕ) × (1 ≤ n) × (n ≤ most) × (word ≡ decimal n)
+
+abbrev pub IsAddress : List ℕ → Type 0
+IsAddress word = (word ≢ []) × IsUtf8 word
+
+abbrev pub name_text : CommandName → List ℕ
+name_text Get = codes "get"
+name_text Check = codes "check"
+name_text Tree = codes "tree"
+name_text Replay = codes "replay"
+name_text Demo = codes "demo"
+name_text Serve = codes "serve"
+
+-- the command of this name
+abbrev pub name_of : List ℕ → Option CommandName
+name_of word =
+    if bytes_eq word (codes "get") then Some Get else (
+    if bytes_eq word (codes "check") then Some Check else (
+    if bytes_eq word (codes "tree") then Some Tree else (
+    if bytes_eq word (codes "replay") then Some Replay else (
+    if bytes_eq word (codes "demo") then Some Demo else (
+    if bytes_eq word (codes "serve") then Some Serve else None)))))
+
+abbrev pub AreConnections : List (List ℕ) → Type 0
+AreConnections [] = ⊤
+AreConnections (number ∷ []) = IsNumber 1000000 number
+AreConnections (number ∷ more ∷ others) = ⊥
+
+-- `get TARGET`
+abbrev pub FitsGet : List (List ℕ) → Type 0
+FitsGet [] = ⊥
+FitsGet (target ∷ []) = IsTarget target
+FitsGet (target ∷ more ∷ others) = ⊥
+
+-- `check` and `check eager`
+abbrev pub FitsCheck : List (List ℕ) → Type 0
+FitsCheck [] = ⊤
+FitsCheck (word ∷ []) = word ≡ codes "eager"
+FitsCheck (word ∷ more ∷ others) = ⊥
+
+-- `demo N`, N being at most 1,000
+abbrev pub FitsDemo : List (List ℕ) → Type 0
+FitsDemo [] = ⊥
+FitsDemo (number ∷ []) = IsNumber 1000 number
+FitsDemo (number ∷ more ∷ others) = ⊥
+
+-- `serve ADDRESS WORKERS` and `serve ADDRESS WORKERS CONNECTIONS`, with at most 16 workers and 1,000,000 connections
+abbrev pub FitsServe : List (List ℕ) → Type 0
+FitsServe [] = ⊥
+FitsServe (address ∷ []) = ⊥
+FitsServe (address ∷ workers ∷ connections) = IsAddress address × IsNumber 16 workers × AreConnections connections
+
+-- Which arguments each command has. `tree` and `replay` have none.
+abbrev pub Fits : CommandName → List (List ℕ) → Type 0
+Fits Get arguments = FitsGet arguments
+Fits Check arguments = FitsCheck arguments
+Fits Tree arguments = arguments ≡ []
+Fits Replay arguments = arguments ≡ []
+Fits Demo arguments = FitsDemo arguments
+Fits Serve arguments = FitsServe arguments
+
+-- the words are those of this command
+abbrev pub IsCommand : CommandName → List (List ℕ) → Type 0
+IsCommand name [] = ⊥
+IsCommand name (first ∷ arguments) = (first ≡ name_text name) × Fits name arguments
+
+abbrev pub IsCommandLine : List (List ℕ) → Type 0
+IsCommandLine words = (name : CommandName) × IsCommand name words

@@ -1,0 +1,5 @@
+//! What `once_main` writes for given folders and words, where no clause says it.
+#![tactic(auto)]
+
+#[cfg(test)]
+mod tests;

@@ -1,0 +1,4 @@
+pub mod Histories
+pub mod Counts
+pub mod Keeping
+pub mod Backing

@@ -1,0 +1,7 @@
+-- A ticket that may enter.
+use Rattle.std.specs.Prelude.{◌≡◌, None}
+use Rattle.turn_lock.specs.Tickets.{LockId, TicketView}
+
+-- a ticket of this lock that is in no turn
+abbrev pub IsReady : {B E W : Type 0} → LockId → TicketView B E W → Type 0
+IsReady lock t = (t.lock ≡ lock) × (t.turn ≡ None)

@@ -1,0 +1,5 @@
+class HelloController
+  def self.index(params)
+    "hi"
+  end
+end
