@@ -17,5 +17,6 @@ pub use config::{
     Config, ConfigFault, ConfigKind, ConfigText, ConfigTexts, LoadLine, LoadLines, Patterns,
     RootLine, RootLines, TextPairs,
 };
+pub use paths::is_constant;
 pub use patterns::names;
 pub use reading::read;

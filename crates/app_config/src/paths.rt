@@ -3,8 +3,8 @@ ghost use Rattle.app_config.specs.Paths as spec;
 
 use crate::text::cut;
 
-/// An upper case letter, then letters, digits and `_`.
-pub(crate) fn is_constant(name: &[u8]) -> bool
+/// Whether a name is a constant name: an upper case letter, then letters, digits and `_`.
+pub fn is_constant(name: &[u8]) -> bool
     ensures { result ≡ spec.is_constant name.now }
 {
     match name {

@@ -1,15 +1,12 @@
 //! The program: a command over the application's folder, which is the current folder, and standard output.
 #![tactic(auto)]
 
-mod folder;
-mod output;
 mod script;
 mod usage;
 
-use crate::folder::FolderTree;
-use crate::output::StdoutSink;
 use crate::script::NoScript;
 use crate::usage::{USAGE, VERSION, message};
+use outside_real::{FolderTree, StdoutSink};
 use ruby_types::{Text, TextList};
 use std::process::ExitCode;
 use std::rt::{Env, Files};

@@ -1,5 +1,5 @@
 -- How an answer's output was written.
-use Rattle.std.proofs.Common.{◌≡◌, ◌⊎◌, inl, inr, ℕ, zero, suc, ◌<◌, ◌≤◌, ◌^◌, List, [], ◌∷◌, length, map, All, Option, Some, None, IfSome, ◌==◌, slice_index_or, append-nil, refl, sym, ap, subst, arith}
+use Rattle.std.proofs.Common.{◌≡◌, ◌⊎◌, inl, inr, ℕ, zero, suc, ◌<◌, ◌≤◌, ◌^◌, List, [], ◌∷◌, ◌++◌, length, map, All, Option, Some, None, IfSome, ◌==◌, slice_index_or, append-nil, refl, sym, ap, subst, arith}
 use Rattle.std.specs.List.{sum}
 use Rattle.std.proofs.lemmas.Grind.{common_steps}
 use Rattle.outside.specs.Faults.{Counts}
@@ -8,11 +8,14 @@ use Rattle.ruby_types.specs.declared.request.Reply.{Reply}
 use Rattle.load_rules.specs.FirstReply.{FirstReply, no_controller, cut_off, no_action, answers as answers_text, IsReadable}
 use Rattle.outside.specs.Told.{appended}
 use Rattle.top_calls.specs.Words.{IsCommandLine}
-use Rattle.top_calls.specs.Limits.{IsWithinLimits}
+use Rattle.tree_report.specs.Limits.{IsWithinLimits}
+use Rattle.tree_report.specs.Refusals.{refusal_text}
+use Rattle.tree_report.specs.declared.refusal.Refusal.{Refusal}
+use Rattle.tree_command.specs.Tree.{IsTreeListing, IsRefused}
 use Rattle.top_calls.specs.Response.{response_bytes}
-use Rattle.top_calls.specs.Output.{code_of, IsOfAnswer, IsFirstGet, IsOtherCommand, Output, faulty_words, other_command, answers, WritesOn, IsOtherApplication, Answer, other_application, replies, Writes, WritesOne, not_built_line, generation_of, status_of}
+use Rattle.top_calls.specs.Output.{code_of, IsOfAnswer, IsFirstGet, IsOtherCommand, Output, faulty_words, other_command, answers, WritesOn, IsOtherApplication, Answer, other_application, replies, Writes, WritesOne, not_built_line, generation_of, status_of, tree_words, TreeAnswer, tells, lists, refuses}
 use Rattle.top_calls.specs.declared.status.Status.{Status}
-use Rattle.top_calls.specs.declared.status.Status.TheVariants.{Done, Negative, FaultyWords, TreeFault, WriteFault, Memory, NotBuilt}
+use Rattle.top_calls.specs.declared.status.Status.TheVariants.{Done, Negative, FaultyWords, TreeFault, WriteFault, Memory, Refused, NotBuilt}
 
 pub one_written : (Is : List ℕ → Status → Type 0) (output : List ℕ) (own status : Status) (before now : Option (List ℕ)) → Is output own → Writes output own status before now → WritesOne Is status before now
 one_written Is output own Done before now p w = (output, own, p, w)
@@ -21,6 +24,7 @@ one_written Is output own FaultyWords before now p w = (output, own, p, w)
 one_written Is output own TreeFault before now p w = (output, own, p, w)
 one_written Is output own WriteFault before now p w = (output, own, p, w)
 one_written Is output own Memory before now p w = w
+one_written Is output own Refused before now p w = (output, own, p, w)
 one_written Is output own NotBuilt before now p w = (output, own, p, w)
 
 pub other_application_written : (files : List FileEntry) (controller action : List ℕ) (status : Status) (before now : Option (List ℕ)) → IsOtherApplication files
@@ -39,14 +43,6 @@ known_status files controller action reply (cut_off file is cut) = inr (inr refl
 known_status files controller action reply (no_action file parts is text other) = inr (inl refl)
 known_status files controller action reply (answers_text file parts is text same) = inl refl
 
-member_fits : (files : List FileEntry) (k : ℕ) (d : FileEntry) → k < length files → length (slice_index_or files k d).bytes ≤ sum (map (λ (f : FileEntry). length f.bytes) files)
-member_fits [] k d h = grind (arith, common_steps)
-member_fits (file ∷ files) zero d h = grind (arith, common_steps)
-member_fits (file ∷ files) (suc k) d h = let rest = member_fits files k d (grind (arith, common_steps)) in grind (arith, common_steps)
-
-pub small_files : (files : List FileEntry) → IsWithinLimits files → All (λ (file : FileEntry). length file.bytes < 2 ^ 32) files
-small_files files within = λ k d h. let fits = member_fits files k d h in let all = within.bytes in omega arith
-
 -- an output on whichever files the tree holds
 on_any : (Is : List FileEntry → List ℕ → Status → Type 0) (held : Option (List FileEntry)) (status : Status) (before now : Option (List ℕ))
     → IsOfAnswer status → ((files : List FileEntry) → held ≡ Some files → WritesOne (Is files) status before now) → (status ≡ Memory → now ≡ before) → WritesOn held Is status before now
@@ -56,6 +52,7 @@ on_any Is None FaultyWords before now own w m = absurd own
 on_any Is None TreeFault before now own w m = absurd own
 on_any Is None WriteFault before now own w m = tt
 on_any Is None Memory before now own w m = m refl
+on_any Is None Refused before now own w m = tt
 on_any Is None NotBuilt before now own w m = tt
 on_any Is (Some all) Done before now own w m = w all refl
 on_any Is (Some all) Negative before now own w m = w all refl
@@ -63,6 +60,7 @@ on_any Is (Some all) FaultyWords before now own w m = absurd own
 on_any Is (Some all) TreeFault before now own w m = absurd own
 on_any Is (Some all) WriteFault before now own w m = w all refl
 on_any Is (Some all) Memory before now own w m = m refl
+on_any Is (Some all) Refused before now own w m = w all refl
 on_any Is (Some all) NotBuilt before now own w m = w all refl
 
 nothing_without_memory : (Is : List ℕ → Status → Type 0) (status : Status) (before now : Option (List ℕ)) → WritesOne Is status before now → status ≡ Memory → now ≡ before
@@ -83,33 +81,55 @@ other_command_written words held status before now other own w =
     on_any (Output words) held status before now own (λ files is. one_written (Output words files) not_built_line NotBuilt status before now (other_command other) w)
     (λ e. let P : Status → Type 0 = λ s. Writes not_built_line NotBuilt s before now in subst P e w)
 
-answered : (words : List (List ℕ)) (controller action : List ℕ) (files : List FileEntry) (status : Status) (before now : Option (List ℕ)) → IsFirstGet words controller action
-    → WritesOne (Answer files controller action) status before now → WritesOne (Output words files) status before now
-answered words controller action files Done before now get w = (w.0, w.1, answers controller action w.0 w.1 get w.2, w.3)
-answered words controller action files Negative before now get w = (w.0, w.1, answers controller action w.0 w.1 get w.2, w.3)
-answered words controller action files FaultyWords before now get w = (w.0, w.1, answers controller action w.0 w.1 get w.2, w.3)
-answered words controller action files TreeFault before now get w = (w.0, w.1, answers controller action w.0 w.1 get w.2, w.3)
-answered words controller action files WriteFault before now get w = (w.0, w.1, answers controller action w.0 w.1 get w.2, w.3)
-answered words controller action files Memory before now get w = w
-answered words controller action files NotBuilt before now get w = (w.0, w.1, answers controller action w.0 w.1 get w.2, w.3)
+-- an output of which more holds
+weaker_one : (Is Js : List ℕ → Status → Type 0) (status : Status) (before now : Option (List ℕ)) → ((output : List ℕ) (own : Status) → Is output own → Js output own)
+    → WritesOne Is status before now → WritesOne Js status before now
+weaker_one Is Js Done before now to w = (w.0, w.1, to w.0 w.1 w.2, w.3)
+weaker_one Is Js Negative before now to w = (w.0, w.1, to w.0 w.1 w.2, w.3)
+weaker_one Is Js FaultyWords before now to w = (w.0, w.1, to w.0 w.1 w.2, w.3)
+weaker_one Is Js TreeFault before now to w = (w.0, w.1, to w.0 w.1 w.2, w.3)
+weaker_one Is Js WriteFault before now to w = (w.0, w.1, to w.0 w.1 w.2, w.3)
+weaker_one Is Js Memory before now to w = w
+weaker_one Is Js Refused before now to w = (w.0, w.1, to w.0 w.1 w.2, w.3)
+weaker_one Is Js NotBuilt before now to w = (w.0, w.1, to w.0 w.1 w.2, w.3)
+
+weaker_some : (Is Js : List FileEntry → List ℕ → Status → Type 0) (held : Option (List FileEntry)) (status : Status) (before now : Option (List ℕ))
+    → ((files : List FileEntry) (output : List ℕ) (own : Status) → Is files output own → Js files output own)
+    → IfSome held (λ files. WritesOne (Is files) status before now) → IfSome held (λ files. WritesOne (Js files) status before now)
+weaker_some Is Js None status before now to w = tt
+weaker_some Is Js (Some files) status before now to w = weaker_one (Is files) (Js files) status before now (to files) w
+
+weaker_on : (Is Js : List FileEntry → List ℕ → Status → Type 0) (held : Option (List FileEntry)) (status : Status) (before now : Option (List ℕ))
+    → ((files : List FileEntry) (output : List ℕ) (own : Status) → Is files output own → Js files output own)
+    → WritesOn held Is status before now → WritesOn held Js status before now
+weaker_on Is Js held Done before now to w = weaker_some Is Js held Done before now to w
+weaker_on Is Js held Negative before now to w = weaker_some Is Js held Negative before now to w
+weaker_on Is Js held FaultyWords before now to w = weaker_some Is Js held FaultyWords before now to w
+weaker_on Is Js held TreeFault before now to w = w
+weaker_on Is Js held WriteFault before now to w = weaker_some Is Js held WriteFault before now to w
+weaker_on Is Js held Memory before now to w = w
+weaker_on Is Js held Refused before now to w = weaker_some Is Js held Refused before now to w
+weaker_on Is Js held NotBuilt before now to w = weaker_some Is Js held NotBuilt before now to w
 
 -- a request that is answered
 pub request_written : (words : List (List ℕ)) (controller action : List ℕ) (held : Option (List FileEntry)) (status : Status) (before now : Option (List ℕ)) → IsFirstGet words controller action
     → WritesOn held (λ files. Answer files controller action) status before now → WritesOn held (Output words) status before now
-request_written words controller action None Done before now get w = tt
-request_written words controller action None Negative before now get w = tt
-request_written words controller action None FaultyWords before now get w = tt
-request_written words controller action None TreeFault before now get w = w
-request_written words controller action None WriteFault before now get w = tt
-request_written words controller action None Memory before now get w = w
-request_written words controller action None NotBuilt before now get w = tt
-request_written words controller action (Some all) Done before now get w = answered words controller action all Done before now get w
-request_written words controller action (Some all) Negative before now get w = answered words controller action all Negative before now get w
-request_written words controller action (Some all) FaultyWords before now get w = answered words controller action all FaultyWords before now get w
-request_written words controller action (Some all) TreeFault before now get w = w
-request_written words controller action (Some all) WriteFault before now get w = answered words controller action all WriteFault before now get w
-request_written words controller action (Some all) Memory before now get w = w
-request_written words controller action (Some all) NotBuilt before now get w = answered words controller action all NotBuilt before now get w
+request_written words controller action held status before now get w =
+    weaker_on (λ files. Answer files controller action) (Output words) held status before now (λ files output own answer. answers controller action output own get answer) w
+
+-- the lines of a listing, or of a refusal
+pub listing_written : (files : List FileEntry) (bytes : List ℕ) (status : Status) (before now : Option (List ℕ)) → IsTreeListing files bytes
+    → Writes bytes Done status before now → WritesOne (TreeAnswer files) status before now
+listing_written files bytes status before now listing w = one_written (TreeAnswer files) bytes Done status before now (lists bytes listing) w
+
+pub refusal_written : (files : List FileEntry) (refusal : Refusal) (status : Status) (before now : Option (List ℕ)) → IsRefused files refusal
+    → Writes (refusal_text refusal ++ 10 ∷ []) Refused status before now → WritesOne (TreeAnswer files) status before now
+refusal_written files refusal status before now refused w = one_written (TreeAnswer files) (refusal_text refusal ++ 10 ∷ []) Refused status before now (refuses refusal refused) w
+
+-- the command `tree`
+pub tree_written : (words : List (List ℕ)) (held : Option (List FileEntry)) (status : Status) (before now : Option (List ℕ)) → words ≡ tree_words
+    → WritesOn held TreeAnswer status before now → WritesOn held (Output words) status before now
+tree_written words held status before now is w = weaker_on TreeAnswer (Output words) held status before now (λ files output own answer. tells output own is answer) w
 
 appended_nothing : (before : Option (List ℕ)) → before ≡ appended before []
 appended_nothing None = refl
@@ -128,4 +148,5 @@ no_tree_fault FaultyWords before now own same = same
 no_tree_fault TreeFault before now own same = absurd own
 no_tree_fault WriteFault before now own same = same
 no_tree_fault Memory before now own same = same
+no_tree_fault Refused before now own same = same
 no_tree_fault NotBuilt before now own same = same

@@ -1,15 +1,18 @@
 -- What a command writes, and how it ends.
-use Rattle.std.specs.Prelude.{◌≡◌, ◌⊎◌, ℕ, ◌<◌, ◌==◌, List, [], ◌∷◌, ◌++◌, length, take, codes, All, Any, Option, IfSome, if◌then◌else◌, ⊤}
+use Rattle.std.specs.Prelude.{◌≡◌, ◌≢◌, ◌⊎◌, ℕ, ◌<◌, ◌==◌, List, [], ◌∷◌, ◌++◌, length, take, codes, All, Any, Option, IfSome, if◌then◌else◌, ⊤}
 use Rattle.outside.specs.Told.{appended}
 use Rattle.outside.specs.declared.files.FileEntry.{FileEntry}
 use Rattle.ruby_types.specs.declared.request.Reply.{Reply}
 use Rattle.load_rules.specs.FirstReply.{IsReadable, FirstReply}
 use Rattle.top_calls.specs.Words.{IsCommandLine, IsTarget}
 use Rattle.top_calls.specs.Target.{IsFirstTarget}
-use Rattle.top_calls.specs.Limits.{IsWithinLimits}
+use Rattle.tree_report.specs.Limits.{IsWithinLimits}
+use Rattle.tree_report.specs.Refusals.{refusal_text}
+use Rattle.tree_report.specs.declared.refusal.Refusal.{Refusal}
+use Rattle.tree_command.specs.Tree.{IsTreeListing, IsRefused}
 use Rattle.top_calls.specs.Response.{response_bytes}
 use Rattle.top_calls.specs.declared.status.Status.{Status}
-use Rattle.top_calls.specs.declared.status.Status.TheVariants.{Done, Negative, FaultyWords, TreeFault, WriteFault, Memory, NotBuilt}
+use Rattle.top_calls.specs.declared.status.Status.TheVariants.{Done, Negative, FaultyWords, TreeFault, WriteFault, Memory, Refused, NotBuilt}
 
 -- the exit status
 abbrev pub code_of : Status → ℕ
@@ -19,15 +22,20 @@ code_of FaultyWords = 2
 code_of TreeFault = 3
 code_of WriteFault = 4
 code_of Memory = 5
+code_of Refused = 6
 code_of NotBuilt = 11
 
 -- the words are `get TARGET`, and the target is `/CONTROLLER/ACTION`
 abbrev pub IsFirstGet : List (List ℕ) → (controller action : List ℕ) → Type 0
 IsFirstGet words controller action = (target : List ℕ) × (words ≡ codes "get" ∷ target ∷ []) × IsTarget target × IsFirstTarget target controller action
 
+-- the command `tree`
+abbrev pub tree_words : List (List ℕ)
+tree_words = codes "tree" ∷ []
+
 -- the words are another command, or they are `get` with another target
 abbrev pub IsOtherCommand : List (List ℕ) → Type 0
-IsOtherCommand words = IsCommandLine words × ((controller action : List ℕ) → ¬ (IsFirstGet words controller action))
+IsOtherCommand words = IsCommandLine words × ((controller action : List ℕ) → ¬ (IsFirstGet words controller action)) × (words ≢ tree_words)
 
 -- the application is too large, or some file is not readable
 abbrev pub IsOtherApplication : List FileEntry → Type 0
@@ -36,6 +44,10 @@ IsOtherApplication files = ¬ (IsWithinLimits files) ⊎ Any (λ file. ¬ (IsRea
 -- what was asked for on these files is not built yet
 abbrev pub IsNotBuilt : List (List ℕ) → List FileEntry → Type 0
 IsNotBuilt words files = IsOtherCommand words ⊎ ((controller action : List ℕ) × IsFirstGet words controller action × IsOtherApplication files)
+
+-- the words are `tree`, and the application is refused
+abbrev pub IsTreeRefused : List (List ℕ) → List FileEntry → Type 0
+IsTreeRefused words files = (words ≡ tree_words) × ((refusal : Refusal) × IsRefused files refusal)
 
 -- a fault of the tree, of the sink or of memory
 abbrev pub IsFault : (code : ℕ) → Type 0
@@ -58,12 +70,19 @@ pub data Answer (files : List FileEntry) (controller action : List ℕ) : List �
   replies : (reply : Reply) → IsWithinLimits files → All IsReadable files → FirstReply files controller action reply
       → Answer files controller action (response_bytes reply (generation_of files)) (status_of reply)
 
+-- The output of `tree` on an application's files, and its status: its constants and their files, or one line that says why
+-- the application is refused.
+pub data TreeAnswer (files : List FileEntry) : List ℕ → Status → Type 0 where
+  lists : (bytes : List ℕ) → IsTreeListing files bytes → TreeAnswer files bytes Done
+  refuses : (refusal : Refusal) → IsRefused files refusal → TreeAnswer files (refusal_text refusal ++ 10 ∷ []) Refused
+
 -- The output of a command line on an application's files, and its status.
 pub data Output (words : List (List ℕ)) (files : List FileEntry) : List ℕ → Status → Type 0 where
   faulty_words : ¬ (IsCommandLine words) → Output words files [] FaultyWords
   other_command : IsOtherCommand words → Output words files not_built_line NotBuilt
   answers : (controller action output : List ℕ) (own : Status) → IsFirstGet words controller action → Answer files controller action output own
       → Output words files output own
+  tells : (output : List ℕ) (own : Status) → words ≡ tree_words → TreeAnswer files output own → Output words files output own
 
 -- a status that an answer can have, once the files are read
 abbrev pub IsOfAnswer : Status → Type 0

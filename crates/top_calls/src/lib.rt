@@ -1,7 +1,6 @@
 //! The calls that the program runs.
 #![tactic(auto)]
 
-pub mod limits;
 pub mod once;
 pub mod response;
 pub mod status;

@@ -1,15 +1,15 @@
 //! The commands that end by themselves.
-ghost use Rattle.std.specs.Prelude.{◌≡◌, ◌⊎◌, ◌==◌, ◌≢◌, [], ◌∷◌, ℕ, List, IfSome, IfNone, codes};
+ghost use Rattle.std.specs.Prelude.{◌≡◌, ◌⊎◌, ◌==◌, ◌≢◌, ◌↔◌, [], ◌∷◌, ◌++◌, ℕ, List, IfSome, IfNone, IsTrue, codes};
 ghost use Rattle.outside.specs.Faults.{Counts};
 ghost use Rattle.top_calls.specs.Words.{IsCommandLine, Fits, FitsGet};
-ghost use Rattle.top_calls.specs.Limits.{IsWithinLimits};
+ghost use Rattle.tree_report.specs.Limits.{IsWithinLimits};
+ghost use Rattle.tree_report.specs.Refusals.{refusal_text};
 ghost use Rattle.top_calls.specs.Command.{words_of};
 ghost use Rattle.top_calls.specs.Response.{response_bytes};
-ghost use Rattle.top_calls.specs.Output.{code_of, not_built_line, generation_of, status_of, IsFirstGet, IsOtherCommand, Answer, Output, IsOfAnswer, IsNotBuilt, IsFault, Writes, WritesOne, WritesOn};
+ghost use Rattle.top_calls.specs.Output.{code_of, not_built_line, generation_of, status_of, IsFirstGet, IsOtherCommand, IsTreeRefused, tree_words, Answer, TreeAnswer, Output, IsOfAnswer, IsNotBuilt, IsFault, Writes, WritesOne, WritesOn};
 ghost use Rattle.top_calls.specs.declared.status.Status.{Status as StatusValue};
-ghost use Rattle.top_calls.specs.declared.status.Status.TheVariants.{FaultyWords, Memory, WriteFault, NotBuilt};
+ghost use Rattle.top_calls.specs.declared.status.Status.TheVariants.{Done, FaultyWords, Memory, WriteFault, Refused, NotBuilt};
 
-use crate::limits::is_within_limits;
 use crate::response::print_response;
 use crate::status::Status;
 use crate::target::{Target, first_target};
@@ -18,6 +18,8 @@ use load_rules::{FirstRefusal, first_reply};
 use outside::{FileEntry, Sink, Snapshot, Source, Tree, TreeAns, Written, write_all};
 use ruby_types::{Reply, Text, TextList};
 use std::alloc::Global;
+use tree_command::{TreeFault, list_tree};
+use tree_report::{Refusal, is_within_limits};
 
 /// Says that what was asked for is not built yet.
 fn refuse<O: Sink>(out: &mut O) -> Status
@@ -62,7 +64,7 @@ fn generation(files: &[FileEntry]) -> u32
 }
 
 /// Answers a request on files within the limits.
-#[tactic(auto, using(crate::proofs::Outputs::other_application_written, crate::proofs::Outputs::known_status, crate::proofs::Outputs::small_files))]
+#[tactic(auto, using(crate::proofs::Outputs::other_application_written, crate::proofs::Outputs::known_status, tree_report::proofs::LimitLaws::small_files))]
 fn answer_within<O: Sink>(
     alloc: Global,
     snapshot: &Snapshot,
@@ -118,6 +120,71 @@ fn answer<T: Tree, O: Sink>(alloc: Global, target: &Target<'_>, tree: &mut T, ou
     }
 }
 
+/// Writes the lines of a listing.
+fn write_listing<O: Sink>(bytes: &[u8], out: &mut O) -> Status
+    ensures written { Writes bytes.now Done result (O.written out.old) (O.written out.new) }
+    ensures faults { Counts (code_of result == 4) (O.faults out.old) (O.faults out.new) }
+    ensures own_status { IsOfAnswer result }
+{
+    match write_all(out, bytes) {
+        Written::Whole => Status::Done,
+        Written::Failed => Status::WriteFault,
+    }
+}
+
+/// Says in one line why the application is refused.
+fn write_refusal<O: Sink>(alloc: Global, refusal: &Refusal, out: &mut O) -> Status
+    ensures written { Writes (refusal_text refusal.now ++ 10 ∷ []) Refused result (O.written out.old) (O.written out.new) }
+    ensures faults { Counts (code_of result == 4) (O.faults out.old) (O.faults out.new) }
+    ensures own_status { IsOfAnswer result }
+{
+    let Ok(line) = refusal.line(alloc) else {
+        return Status::Memory;
+    };
+    match write_all(out, line.as_slice()) {
+        Written::Whole => Status::Refused,
+        Written::Failed => Status::WriteFault,
+    }
+}
+
+/// Lists the constants of these files.
+#[tactic(auto, using(crate::proofs::Outputs::listing_written, crate::proofs::Outputs::refusal_written))]
+fn list_on<O: Sink>(alloc: Global, snapshot: &Snapshot, out: &mut O) -> Status
+    ensures written { WritesOne (TreeAnswer snapshot.now.files) result (O.written out.old) (O.written out.new) }
+    ensures faults { Counts (code_of result == 4) (O.faults out.old) (O.faults out.new) }
+    ensures own_status { IsOfAnswer result }
+{
+    match list_tree(alloc, snapshot) {
+        Ok(bytes) => write_listing(bytes.as_slice(), out),
+        Err(TreeFault::Refused(refusal)) => write_refusal(alloc, &refusal, out),
+        Err(TreeFault::Memory) => Status::Memory,
+    }
+}
+
+/// Lists the constants of the files of the tree.
+#[tactic(auto, using(crate::proofs::Outputs::written_on, crate::proofs::Outputs::no_tree_fault))]
+fn list<T: Tree, O: Sink>(alloc: Global, tree: &mut T, out: &mut O) -> Status
+    ensures written { WritesOn (T.holds tree.new) TreeAnswer result (O.written out.old) (O.written out.new) }
+    ensures tree_faults { Counts (code_of result == 3) (T.faults tree.old) (T.faults tree.new) }
+    ensures write_faults { Counts (code_of result == 4) (O.faults out.old) (O.faults out.new) }
+    ensures not_faulty { result ≢ FaultyWords }
+{
+    match tree.read_all() {
+        TreeAns::Read(snapshot) => list_on(alloc, &snapshot, out),
+        TreeAns::Failed => Status::TreeFault,
+        TreeAns::Memory => Status::Memory,
+    }
+}
+
+/// Whether the command is `tree`.
+#[tactic(auto, using(crate::proofs::Commands::tree_is, crate::proofs::Commands::no_tree))]
+fn is_tree(command: &CommandLine<'_>) -> bool
+    requires { Fits command.now.name command.now.arguments.now }
+    ensures { IsTrue result ↔ (words_of command.now ≡ tree_words) }
+{
+    matches!(command.name, CommandName::Tree)
+}
+
 /// The one word that there is.
 fn only_word(arguments: &[Text]) -> Option<&Text>
     ensures found { IfSome result (λ word. arguments.now ≡ word.now ∷ []) }
@@ -169,6 +236,9 @@ fn run<T: Tree, O: Sink>(alloc: Global, words: &TextList, tree: &mut T, out: &mu
         Ok(None) => return Status::FaultyWords,
         Err(_) => return Status::Memory,
     };
+    if is_tree(&command) {
+        return list(alloc, tree, out);
+    }
     match first_request(&command) {
         Some(target) => answer(alloc, &target, tree, out),
         None => refuse(out),
@@ -180,6 +250,7 @@ fn run<T: Tree, O: Sink>(alloc: Global, words: &TextList, tree: &mut T, out: &mu
 /// - 0 done, 1 answered but negatively (a request whose reply is not 200);
 /// - 2 the words are no command line;
 /// - 3 the files could not be read, 4 the output could not be written, 5 want of memory;
+/// - 6 the application is refused: it is beyond a limit, or its configuration or its names have a fault;
 /// - 11 what was asked for is not built yet.
 ///
 /// The script is not read yet.
@@ -199,6 +270,8 @@ pub fn once_main<S: Source, T: Tree, O: Sink>(
     ensures command { (result ≡ 2) ⊎ ((result ≡ 5) ⊎ IsCommandLine words.now) }
     ensures tree_faults { Counts (result == 3) (T.faults tree.old) (T.faults tree.new) }
     ensures write_faults { Counts (result == 4) (O.faults out.old) (O.faults out.new) }
+    ensures refused { IfSome (T.holds tree.new) (λ files. result ≡ 6 → IsTreeRefused words.now files) }
+    ensures refused_only { IfSome (T.holds tree.new) (λ files. IsTreeRefused words.now files → (result ≡ 6) ⊎ IsFault result) }
     ensures not_built { IfSome (T.holds tree.new) (λ files. result ≡ 11 → IsNotBuilt words.now files) }
     ensures not_built_only { IfSome (T.holds tree.new) (λ files. IsNotBuilt words.now files → (result ≡ 11) ⊎ IsFault result) }
 

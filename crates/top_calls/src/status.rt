@@ -14,6 +14,8 @@ pub enum Status {
     WriteFault = 4,
     /// Want of memory.
     Memory = 5,
+    /// The application is beyond a limit, or its configuration or its names have a fault.
+    Refused = 6,
     /// What was asked for is not built yet.
     NotBuilt = 11,
 }

@@ -12,9 +12,9 @@ const HELLO: &[u8] = b"class HelloController\n  def self.index(params)\n    \"hi
 
 /// What a run answered: its status and what it wrote.
 #[derive(Drop)]
-struct Run {
-    status: u8,
-    written: Vec<u8>,
+pub(crate) struct Run {
+    pub(crate) status: u8,
+    pub(crate) written: Vec<u8>,
 }
 
 fn words_of(alloc: Global, words: &[&str]) -> Result<TextList, AllocError> {
@@ -30,7 +30,7 @@ fn call_numbers(alloc: Global, fails: &[u64]) -> Result<CallNumbers, AllocError>
 }
 
 /// Runs the words over these files, with a tree and a sink that fail at the given calls.
-fn answer_to(
+pub(crate) fn answer_to(
     alloc: Global,
     words: &[&str],
     files: &[(&str, &[u8])],
@@ -51,7 +51,7 @@ fn answer_to(
     })
 }
 
-fn expect(rt: &impl Abort, answer: &Run, status: u8, written: &[u8]) {
+pub(crate) fn expect(rt: &impl Abort, answer: &Run, status: u8, written: &[u8]) {
     assert_eq!(rt; answer.status, status);
     assert_eq!(rt; answer.written.as_slice(), written);
 }
@@ -184,7 +184,7 @@ fn faults_of_the_tree_and_of_the_sink_have_their_statuses(rt: HostRuntime) -> Re
 }
 
 #[test]
-fn an_application_beyond_the_limits_is_not_built_yet(rt: HostRuntime) -> Result<(), Fail> {
+fn an_application_beyond_the_limits_is_not_answered(rt: HostRuntime) -> Result<(), Fail> {
     let mut long = Vec::from_slice(rt.alloc(), b"app/controllers/")?;
     for _ in 0..226 {
         long.push(b'a')?;
@@ -194,5 +194,7 @@ fn an_application_beyond_the_limits_is_not_built_yet(rt: HostRuntime) -> Result<
     assert_eq!(rt; path.len(), 256);
     let beyond = answer_to(rt.alloc(), &["get", "/a/b"], &[(path, b"class")], &[], &[])?;
     assert_eq!(rt; beyond.status, 11);
+    let listed = answer_to(rt.alloc(), &["tree"], &[(path, b"class")], &[], &[])?;
+    expect(&rt, &listed, 6, b"limit: path 256\n");
     Ok(())
 }

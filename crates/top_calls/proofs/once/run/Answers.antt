@@ -1,9 +1,10 @@
-use Rattle.std.proofs.Common.{ℕ, List, Option, Some, sym, subst}
+use Rattle.std.proofs.Common.{ℕ, List, Option, Some, ◌∙◌, sym, subst}
+use Rattle.std.proofs.lemmas.Bool.{both_ways}
 use Rattle.top_calls.specs.Command.{Finds}
 use Rattle.top_calls.specs.declared.words.CommandLine.{CommandLine}
 use Rattle.top_calls.specs.Output.{IsFirstGet}
 use Rattle.top_calls.proofs.Commands.{is_command_line}
-use Rattle.top_calls.proofs.Outputs.{faulty_words_written, other_command_written, request_written}
+use Rattle.top_calls.proofs.Outputs.{faulty_words_written, other_command_written, request_written, tree_written}
 use Rattle.top_calls.proofs.once.run.Goals as goal
 
 pub returns-in-Ok-None-clause-written : goal.returns-in-Ok-None-clause-written
@@ -31,4 +32,10 @@ returns-in-None-clause-written g c =
     let finds : Finds (Some c.in-Ok-Some.command) c.args.words.now = subst F c.in-Ok-Some.field-0-is c.in-Ok-Some.ensures in
     let unlike : (controller action : List ℕ) → ¬ (IsFirstGet c.args.words.now controller action) = λ controller action get.
     (let P : List (List ℕ) → Type 0 = λ words. IsFirstGet words controller action in c.in-None.ensures.none controller action (subst P finds.0 get)) in
-    other_command_written c.args.words.now _ _ _ _ (is_command_line c.args.words.now _ _ finds.0 finds.1, unlike) c.refuse.ensures.own_status c.refuse.ensures.written
+    other_command_written c.args.words.now _ _ _ _ (is_command_line c.args.words.now _ _ finds.0 finds.1, unlike, λ e. both_ways c.is_tree.result c.if-is_tree.false (c.is_tree.ensures.1 (sym finds.0 ∙ e))) c.refuse.ensures.own_status c.refuse.ensures.written
+
+pub returns-then-is_tree-clause-written : goal.returns-then-is_tree-clause-written
+returns-then-is_tree-clause-written g c =
+    let F : Option CommandLine → Type 0 = λ found. Finds found c.args.words.now in
+    let finds : Finds (Some c.in-Ok-Some.command) c.args.words.now = subst F c.in-Ok-Some.field-0-is c.in-Ok-Some.ensures in
+    tree_written c.args.words.now _ _ _ _ (finds.0 ∙ c.is_tree.ensures.0 c.if-is_tree.true) c.list.ensures.written

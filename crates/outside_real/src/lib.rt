@@ -1,0 +1,11 @@
+//! The real outside: the application's folder and standard output. Each is a few lines over std that tells nothing of
+//! contents, and is trusted to read and write what it says.
+#![tactic(auto)]
+
+pub mod folder;
+pub mod output;
+#[cfg(test)]
+mod tests;
+
+pub use folder::FolderTree;
+pub use output::StdoutSink;

@@ -1,0 +1,5 @@
+//! Cases of sites.
+#![tactic(auto)]
+
+#[cfg(test)]
+mod tests;

@@ -1,0 +1,21 @@
+-- The faults of the layers below, as faults of a listing.
+use Rattle.app_config.specs.declared.config.ConfigFault.{ConfigFault}
+use Rattle.app_config.specs.declared.config.ConfigKind.{ConfigKind}
+use Rattle.app_config.specs.declared.config.ConfigKind.TheVariants as kind
+use Rattle.tree_scan.specs.declared.fault.ScanFault.{ScanFault}
+use Rattle.tree_scan.specs.declared.fault.ScanFault.TheVariants as scan
+use Rattle.tree_report.specs.declared.refusal.Refusal.TheVariants.{Configuration, BadName, TwoRoots}
+use Rattle.tree_command.specs.declared.fault.TreeFault.{TreeFault}
+use Rattle.tree_command.specs.declared.fault.TreeFault.TheVariants.{Refused, Memory}
+
+abbrev pub told : ConfigKind → ConfigFault → TreeFault
+told kind.Memory fault = Memory
+told _ fault = Refused (Configuration fault)
+
+abbrev pub of_configuration : ConfigFault → TreeFault
+of_configuration fault = told fault.kind fault
+
+abbrev pub of_scan : ScanFault → TreeFault
+of_scan (scan.TwoRoots path) = Refused (TwoRoots path)
+of_scan (scan.BadName path) = Refused (BadName path)
+of_scan scan.Memory = Memory

@@ -1,0 +1,11 @@
+//! The command `tree`: the constants of an application and their files, or why the application is refused.
+#![tactic(auto)]
+
+mod fault;
+mod laws;
+mod listing;
+mod rows;
+
+pub use fault::TreeFault;
+pub use laws::never_both;
+pub use listing::list_tree;

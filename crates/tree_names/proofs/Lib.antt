@@ -1,0 +1,4 @@
+pub mod CamelLaws
+pub mod WithinLaws
+pub mod CountLaws
+pub mod SpellLaws

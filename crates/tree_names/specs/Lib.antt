@@ -1,0 +1,4 @@
+pub mod Camel
+pub mod Below
+pub mod Counts
+pub mod Spellings

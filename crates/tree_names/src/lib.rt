@@ -1,0 +1,11 @@
+//! Names from paths: [`camelize`] gives the constant of a base name, [`names_below`] the names that a file's path spells
+//! below its root.
+#![tactic(auto)]
+
+mod camel;
+mod counts;
+mod spelling;
+mod steps;
+
+pub use camel::camelize;
+pub use spelling::{Spelling, names_below, spells_one_list};

@@ -1,0 +1,5 @@
+//! Cases of names from paths.
+#![tactic(auto)]
+
+#[cfg(test)]
+mod tests;

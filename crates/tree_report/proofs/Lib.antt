@@ -1,0 +1,3 @@
+pub mod LimitLaws
+pub mod ListingLaws
+pub mod ConfigurationLaws

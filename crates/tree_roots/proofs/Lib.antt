@@ -1,0 +1,5 @@
+pub mod DirectoryLaws
+pub mod KeyLaws
+pub mod RootLaws
+pub mod AboveLaws
+pub mod FaultLaws

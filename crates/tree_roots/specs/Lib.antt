@@ -1,0 +1,4 @@
+pub mod Directories
+pub mod Keys
+pub mod Roots
+pub mod Above

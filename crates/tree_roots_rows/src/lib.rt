@@ -1,0 +1,5 @@
+//! Cases of roots.
+#![tactic(auto)]
+
+#[cfg(test)]
+mod tests;

@@ -1,0 +1,5 @@
+pub mod Scanned
+pub mod Spells
+pub mod Faults
+pub mod Spelling
+pub mod Sites

@@ -1,0 +1,15 @@
+//! The constants of an application: which file defines which constant, which constants are namespaces, and which files
+//! are shadowed (Zeitwerk README, "File structure").
+//!
+//! [`scan`] gives the [`Sites`] of a snapshot under its configuration.
+#![tactic(auto)]
+
+mod fault;
+mod scanning;
+mod sites;
+mod spelling;
+
+pub use fault::ScanFault;
+pub use scanning::scan;
+pub use site_table::{Site, SiteRow};
+pub use sites::{FilePaths, Sites};

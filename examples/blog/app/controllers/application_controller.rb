@@ -1,0 +1,5 @@
+class ApplicationController
+  def self.title(name)
+    "#{name} | Blog"
+  end
+end

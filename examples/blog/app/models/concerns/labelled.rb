@@ -1,0 +1,5 @@
+module Labelled
+  def label
+    "#{id}: #{title.upcase}"
+  end
+end

@@ -1,0 +1,3 @@
+module APIStatus
+  OK = "ok".freeze
+end
