@@ -1,0 +1,13 @@
+pub mod Laws
+pub mod Lists
+pub mod Complete
+pub mod Clashing
+pub mod Facts
+pub mod Theorems
+pub mod Starts
+pub mod Lifts
+pub mod Following
+pub mod Moves
+pub mod Avoids
+pub mod Fronts
+pub mod Besides

@@ -1,0 +1,14 @@
+pub mod Words
+pub mod Signs
+pub mod Marks
+pub mod Rules
+pub mod Values
+pub mod Expressions
+pub mod Statements
+pub mod Definitions
+pub mod Language
+pub mod Choices
+pub mod Faults
+pub mod Follow
+pub mod Answers
+pub mod Numbers

@@ -1,0 +1,273 @@
+-- What each word is to the grammar: a number for each reserved word, for each kind of token and for each operator.
+use Rattle.std.specs.Prelude.{ℕ, Bool, true, false, ◌==◌, ◌&&◌, ◌||◌, not, nat_le, List, [], ◌∷◌, bytes_eq, if◌then◌else◌}
+use Rattle.ruby_token.specs.declared.token.Op.{Op}
+use Rattle.ruby_token.specs.declared.token.Op.TheVariants as op
+use Rattle.ruby_token.specs.declared.token.TokenKind.{TokenKind}
+use Rattle.ruby_token.specs.declared.token.TokenKind.TheVariants as k
+use Rattle.ruby_token.specs.Bytes.{is_suffix}
+use Rattle.ruby_words.specs.Words.{word_rows}
+use Rattle.ruby_grammar.specs.Words.{Word}
+
+-- the code that a table gives a name, 0 where it has none
+abbrev pub code_in : List (List ℕ × ℕ) → List ℕ → ℕ
+code_in [] name = 0
+code_in (row ∷ rows) name = if bytes_eq row.0 name then row.1 else code_in rows name
+
+-- Names: 1 to 17 for a reserved word, 18 to 47 for a left-out one, 0 for any other.
+abbrev pub name_sign : List ℕ → ℕ
+name_sign text = code_in word_rows text
+
+abbrev pub op_sign : Op → ℕ
+op_sign op.OrElse = 70
+op_sign op.AndAlso = 71
+op_sign op.Not = 72
+op_sign op.Same = 73
+op_sign op.Differs = 74
+op_sign op.Less = 75
+op_sign op.AtMost = 76
+op_sign op.More = 77
+op_sign op.AtLeast = 78
+op_sign op.Plus = 79
+op_sign op.Minus = 80
+op_sign op.Times = 81
+op_sign op.Divide = 82
+op_sign op.Modulo = 83
+op_sign op.Ask = 84
+op_sign op.Colon = 85
+op_sign op.Path = 86
+op_sign op.Dot = 87
+op_sign op.Comma = 88
+op_sign op.Assign = 89
+op_sign op.Arrow = 90
+op_sign op.OpenParen = 91
+op_sign op.CloseParen = 92
+op_sign op.OpenBracket = 93
+op_sign op.CloseBracket = 94
+op_sign op.OpenBrace = 95
+op_sign op.CloseBrace = 96
+op_sign op.Bar = 97
+op_sign _ = 99
+
+abbrev pub kind_sign : TokenKind → List ℕ → ℕ
+kind_sign k.Line text = 50
+kind_sign k.Name text = name_sign text
+kind_sign k.Const text = 51
+kind_sign k.Ivar text = 52
+kind_sign k.Label text = 53
+kind_sign k.Sym text = 54
+kind_sign k.Int text = 55
+kind_sign k.TextOpen text = 56
+kind_sign k.TextPiece text = 57
+kind_sign k.InsideOpen text = 58
+kind_sign k.InsideClose text = 59
+kind_sign k.TextClose text = 60
+kind_sign (k.Op o) text = op_sign o
+
+abbrev pub sign : Word → ℕ
+sign w = kind_sign w.kind w.text
+
+-- ---- the tests of the grammar
+
+abbrev pub is : ℕ → Word → Bool
+is n w = sign w == n
+
+abbrev pub is_name : Word → Bool
+is_name = is 0
+
+abbrev pub is_module : Word → Bool
+is_module = is 1
+
+abbrev pub is_class : Word → Bool
+is_class = is 2
+
+abbrev pub is_def : Word → Bool
+is_def = is 3
+
+abbrev pub is_end : Word → Bool
+is_end = is 4
+
+abbrev pub is_if : Word → Bool
+is_if = is 5
+
+abbrev pub is_elsif : Word → Bool
+is_elsif = is 6
+
+abbrev pub is_else : Word → Bool
+is_else = is 7
+
+abbrev pub is_unless : Word → Bool
+is_unless = is 8
+
+abbrev pub is_then : Word → Bool
+is_then = is 9
+
+abbrev pub is_return : Word → Bool
+is_return = is 10
+
+abbrev pub is_self : Word → Bool
+is_self = is 11
+
+abbrev pub is_nil : Word → Bool
+is_nil = is 12
+
+abbrev pub is_true : Word → Bool
+is_true = is 13
+
+abbrev pub is_false : Word → Bool
+is_false = is 14
+
+abbrev pub is_raise : Word → Bool
+is_raise = is 15
+
+abbrev pub is_include : Word → Bool
+is_include = is 16
+
+abbrev pub is_attr_reader : Word → Bool
+is_attr_reader = is 17
+
+abbrev pub is_line : Word → Bool
+is_line = is 50
+
+abbrev pub is_const : Word → Bool
+is_const = is 51
+
+abbrev pub is_ivar : Word → Bool
+is_ivar = is 52
+
+abbrev pub is_label : Word → Bool
+is_label = is 53
+
+abbrev pub is_sym : Word → Bool
+is_sym = is 54
+
+abbrev pub is_int : Word → Bool
+is_int = is 55
+
+abbrev pub is_text_open : Word → Bool
+is_text_open = is 56
+
+abbrev pub is_text_piece : Word → Bool
+is_text_piece = is 57
+
+abbrev pub is_inside_open : Word → Bool
+is_inside_open = is 58
+
+abbrev pub is_inside_close : Word → Bool
+is_inside_close = is 59
+
+abbrev pub is_text_close : Word → Bool
+is_text_close = is 60
+
+abbrev pub is_not : Word → Bool
+is_not = is 72
+
+abbrev pub is_less : Word → Bool
+is_less = is 75
+
+abbrev pub is_minus : Word → Bool
+is_minus = is 80
+
+abbrev pub is_ask : Word → Bool
+is_ask = is 84
+
+abbrev pub is_colon : Word → Bool
+is_colon = is 85
+
+abbrev pub is_path : Word → Bool
+is_path = is 86
+
+abbrev pub is_dot : Word → Bool
+is_dot = is 87
+
+abbrev pub is_comma : Word → Bool
+is_comma = is 88
+
+abbrev pub is_assign : Word → Bool
+is_assign = is 89
+
+abbrev pub is_arrow : Word → Bool
+is_arrow = is 90
+
+abbrev pub is_open_paren : Word → Bool
+is_open_paren = is 91
+
+abbrev pub is_close_paren : Word → Bool
+is_close_paren = is 92
+
+abbrev pub is_open_bracket : Word → Bool
+is_open_bracket = is 93
+
+abbrev pub is_close_bracket : Word → Bool
+is_close_bracket = is 94
+
+abbrev pub is_open_brace : Word → Bool
+is_open_brace = is 95
+
+abbrev pub is_close_brace : Word → Bool
+is_close_brace = is 96
+
+-- a `(` or `[` that goes on with an expression: nothing white stands before it
+abbrev pub is_tight_paren : Word → Bool
+is_tight_paren w = is_open_paren w && w.tight
+
+abbrev pub is_tight_bracket : Word → Bool
+is_tight_bracket w = is_open_bracket w && w.tight
+
+-- a word that the profile leaves out, or an operator that it does
+abbrev pub is_left_out : Word → Bool
+is_left_out w = (nat_le 18 (sign w) && nat_le (sign w) 47) || (sign w == 99)
+
+-- ---- names
+
+abbrev pub ends_in_suffix : List ℕ → Bool
+ends_in_suffix [] = false
+ends_in_suffix (b ∷ []) = is_suffix b
+ends_in_suffix (b ∷ c ∷ bs) = ends_in_suffix (c ∷ bs)
+
+-- a name that can be a parameter or be assigned: it has no suffix
+abbrev pub is_variable : Word → Bool
+is_variable w = is_name w && not (ends_in_suffix w.text)
+
+abbrev pub has : List (List ℕ) → List ℕ → Bool
+has [] name = false
+has (n ∷ names) name = bytes_eq n name || has names name
+
+-- a parameter that isn't there yet
+abbrev pub is_new_parameter : List (List ℕ) → Word → Bool
+is_new_parameter names w = is_variable w && not (has names w.text)
+
+-- ---- operators by level
+
+-- levels of operators with two operands, from the tightest on; `units` has none
+pub data Level : Type 0 where
+  units : Level
+  products : Level
+  sums : Level
+  comparisons : Level
+  equalities : Level
+  conjunctions : Level
+  disjunctions : Level
+
+-- the level of the operands
+abbrev pub tighter : Level → Level
+tighter disjunctions = conjunctions
+tighter conjunctions = equalities
+tighter equalities = comparisons
+tighter comparisons = sums
+tighter sums = products
+tighter products = units
+tighter units = units
+
+abbrev pub is_operator : Level → Word → Bool
+is_operator disjunctions w = is 70 w
+is_operator conjunctions w = is 71 w
+is_operator equalities w = is 73 w || is 74 w
+is_operator comparisons w = is 75 w || is 76 w || is 77 w || is 78 w
+is_operator sums w = is 79 w || is 80 w
+is_operator products w = is 81 w || is 82 w || is 83 w
+is_operator units w = false
+
+-- more than one operator of the level may stand in a row
+abbrev pub repeats : Level → Bool
+repeats equalities = false
+repeats _ = true

@@ -1,0 +1,11 @@
+//! What `ruby_print` writes for trees, each form of the language once.
+#![tactic(auto)]
+
+#[cfg(test)]
+mod definitions;
+#[cfg(test)]
+mod expressions;
+#[cfg(test)]
+mod make;
+#[cfg(test)]
+mod statements;

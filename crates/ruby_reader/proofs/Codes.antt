@@ -1,0 +1,51 @@
+-- The code that the table gives a name is the name's sign.
+use Rattle.std.proofs.Common.{◌≡◌, ℕ, zero, suc, Bool, true, false, ◌&&◌, ◌==◌, List, [], ◌∷◌, Option, Some, None, slice_get, refl, sym, subst, ap, ◌∙◌, arith}
+use Rattle.std.proofs.lemmas.Bool.{and_parts, cases_Bool, cond-true, cond-false}
+use Rattle.std.proofs.lemmas.Bool.Decides.{nat_tests}
+use Rattle.std.proofs.lemmas.Slice.Eq.{bytes_eq-Decides}
+use Rattle.std.specs.Prelude.{bytes_eq}
+use Rattle.std.proofs.Common.{⊎_elim}
+use Rattle.case_table.specs.Rows.{HasCode, HasNone}
+use Rattle.ruby_words.specs.Words.{word_rows}
+use Rattle.ruby_grammar.specs.Signs.{code_in, name_sign}
+
+abbrev Row : Type 0
+Row = List ℕ × ℕ
+
+-- each of these rows is the first of all that has its name
+abbrev are_found : List Row → List Row → Bool
+are_found all [] = true
+are_found all (r ∷ rows) = (code_in all r.0 == r.1) && are_found all rows
+
+no_row : (P : Type 0) (r : Row) → ◌≡◌ {A = Option Row} None (Some r) → P
+no_row P r e = absurd (cc)
+
+one_row : (r s : Row) → ◌≡◌ {A = Option Row} (Some r) (Some s) → r ≡ s
+one_row r s e = cc
+
+same : (m n : ℕ) → (m == n) ≡ true → m ≡ n
+same m n h = grind (arith, nat_tests)
+
+found : (all rows : List Row) (i : ℕ) (r : Row) → are_found all rows ≡ true → slice_get rows i ≡ Some r → code_in all r.0 ≡ r.1
+found all [] i r h e = no_row _ r e
+found all (x ∷ rows) zero r h e = subst (λ (q : Row). code_in all q.0 ≡ q.1) (one_row x r e) (same (code_in all x.0) x.1 (and_parts _ _ h).0)
+found all (x ∷ rows) (suc i) r h e = found all rows i r (and_parts _ _ h).1 e
+
+words_are_found : are_found word_rows word_rows ≡ true
+words_are_found = refl
+
+pub has_code : (rows : List Row) (name : List ℕ) (code : ℕ) → rows ≡ word_rows → HasCode rows name code → code ≡ name_sign name
+has_code rows name code e h =
+    let get : slice_get word_rows h.0 ≡ Some (name, code) = subst (λ (l : List Row). slice_get l h.0 ≡ Some (name, code)) e h.1 in
+    sym (found word_rows word_rows h.0 (name, code) words_are_found get)
+
+none_in : (rows : List Row) (name : List ℕ) → HasNone rows name → code_in rows name ≡ 0
+none_in [] name h = refl
+none_in (x ∷ rows) name h =
+    ⊎_elim
+    (λ y. absurd (h 0 x refl ((bytes_eq-Decides x.0 name).0 y)))
+    (λ n. cond-false (bytes_eq x.0 name) x.1 (code_in rows name) n ∙ none_in rows name (λ i r e. h (suc i) r e))
+    (cases_Bool (bytes_eq x.0 name))
+
+pub has_none : (rows : List Row) (name : List ℕ) → rows ≡ word_rows → HasNone rows name → 0 ≡ name_sign name
+has_none rows name e h = sym (none_in word_rows name (subst (λ (l : List Row). HasNone l name) e h))

@@ -1,0 +1,5 @@
+mod Magnitude
+mod Codes
+mod Suffix
+mod KeyLaws
+mod Fitting

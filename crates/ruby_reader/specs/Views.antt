@@ -1,0 +1,32 @@
+-- The words of the grammar, as the reader has them.
+use Rattle.std.specs.Prelude.{◌≡◌, ℕ, Bool, true, false, ◌==◌, ◌&&◌, ◌||◌, nat_le, List, [], ◌∷◌}
+use Rattle.ruby_token.specs.Number.{is_in_range}
+use Rattle.ruby_reader.specs.declared.word.Word.{Word as Held}
+use Rattle.ruby_grammar.specs.Words.{Word}
+use Rattle.ruby_grammar.specs.Signs.{sign, is_int}
+
+-- the word that is held
+abbrev pub word_view : Held → Word
+word_view w = record { kind = w.kind; text = w.text.now; tight = w.tight; at = w.at }
+
+-- the sign of the first word, and 98 where none is left
+abbrev pub head_sign : List Word → ℕ
+head_sign [] = 98
+head_sign (w ∷ ws) = sign w
+
+-- left-out words and operators, and what expressions and statements begin with, by their signs
+abbrev pub left_out_sign : ℕ → Bool
+left_out_sign n = (nat_le 18 n && nat_le n 47) || (n == 99)
+
+abbrev pub expression_sign : ℕ → Bool
+expression_sign n =
+    (n == 55) || (n == 56) || (n == 54) || (n == 12) || (n == 13) || (n == 14) || (n == 11) || (n == 0) || (n == 52) || (n == 86) || (n == 51)
+    || (n == 93) || (n == 95) || (n == 91) || (n == 72) || (n == 80)
+
+abbrev pub statement_sign : ℕ → Bool
+statement_sign n = expression_sign n || (n == 10) || (n == 15) || (n == 5) || (n == 8)
+
+-- each number among these words is one from -2^63 to 2^63 - 1
+abbrev pub NumbersFit : List Word → Type 0
+NumbersFit [] = Unit {0}
+NumbersFit (w ∷ ws) = (is_int w ≡ true → is_in_range w.text ≡ true) × NumbersFit ws

@@ -1,0 +1,47 @@
+//! Words: the tokens of a file as the grammar sees them.
+
+ghost use Rattle.std.specs.Prelude.{◌≡◌};
+ghost use Rattle.ruby_grammar.specs.Signs as signs;
+ghost use Rattle.ruby_grammar.specs.Values as values;
+
+use ruby_token::TokenKind;
+
+/// A token with its text. `tight` says that it stands directly behind the token before it.
+#[derive(Clone, Copy)]
+pub struct Word<'a> {
+    pub kind: TokenKind,
+    pub text: &'a [u8],
+    pub tight: bool,
+    /// The place of its first byte.
+    pub at: u32,
+}
+
+/// Whether a `?` or `!` stands behind a name.
+pub fn ends_in_suffix(name: &[u8]) -> bool
+    ensures { result ≡ signs.ends_in_suffix name.now }
+{
+    match name {
+        [.., byte] => *byte == b'?' || *byte == b'!',
+        [] => false,
+    }
+}
+
+/// The name of a symbol or an instance variable, without its `:` or `@`.
+pub fn behind_sign(text: &[u8]) -> &[u8]
+    ensures { result.now ≡ values.behind_sign text.now }
+{
+    match text {
+        [] => text,
+        [_, name @ ..] => name,
+    }
+}
+
+/// The name of a label, without its `:`.
+pub fn before_colon(text: &[u8]) -> &[u8]
+    ensures { result.now ≡ values.before_colon text.now }
+{
+    match text {
+        [] => text,
+        [name @ .., _] => name,
+    }
+}

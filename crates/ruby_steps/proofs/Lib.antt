@@ -1,0 +1,9 @@
+pub mod Descent
+pub mod PathLaws
+pub mod OperatorLaws
+pub mod PostfixLaws
+pub mod ChoiceLaws
+pub mod ArgumentLaws
+pub mod PrimaryLaws
+pub mod EnclosedLaws
+pub mod NameLaws

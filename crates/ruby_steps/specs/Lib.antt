@@ -1,0 +1,5 @@
+pub mod Gives
+pub mod Levels
+pub mod Scopes
+pub mod Opens
+pub mod Primaries

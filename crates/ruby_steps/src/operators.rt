@@ -1,0 +1,132 @@
+//! Operators with two operands, and the trees that they make.
+
+ghost use Rattle.std.specs.Prelude.{◌≡◌, ◌∷◌, [], IfOk, codes};
+ghost use Rattle.ruby_grammar.specs.Signs as signs;
+ghost use Rattle.ruby_grammar.specs.Values.{operation};
+ghost use Rattle.ruby_reader.specs.Views.{word_view};
+ghost use Rattle.ruby_steps.specs.Levels.{level_view, operator_sign};
+
+use ruby_reader::Word;
+use ruby_reader::signs::{AND_ALSO, DIFFERS, OR_ELSE};
+use ruby_types::{Expr, Exprs, Text};
+use sqlite_items::Boxed;
+use std::alloc::{AllocError, Global};
+
+/// The levels of operators with two operands, from the tightest on: `*` `/` `%`, `+` `-`, comparisons, `==` `!=`, `&&`, `||`.
+/// `Units` has none.
+#[derive(Clone, Copy, PartialEq, Eq)]
+pub enum Level {
+    Units,
+    Products,
+    Sums,
+    Comparisons,
+    Equalities,
+    Conjunctions,
+    Disjunctions,
+}
+
+impl Level {
+    /// The level of the operands.
+    pub fn tighter(self) -> Level
+        ensures { level_view result ≡ signs.tighter (level_view self) }
+    {
+        match self {
+            Level::Disjunctions => Level::Conjunctions,
+            Level::Conjunctions => Level::Equalities,
+            Level::Equalities => Level::Comparisons,
+            Level::Comparisons => Level::Sums,
+            Level::Sums => Level::Products,
+            Level::Products | Level::Units => Level::Units,
+        }
+    }
+
+    /// Whether this is the sign of an operator of this level.
+    pub fn has(self, sign: u16) -> bool
+        ensures { result ≡ operator_sign (level_view self) sign }
+    {
+        match self {
+            Level::Disjunctions => sign == 70,
+            Level::Conjunctions => sign == 71,
+            Level::Equalities => sign == 73 || sign == 74,
+            Level::Comparisons => sign == 75 || sign == 76 || sign == 77 || sign == 78,
+            Level::Sums => sign == 79 || sign == 80,
+            Level::Products => sign == 81 || sign == 82 || sign == 83,
+            Level::Units => false,
+        }
+    }
+
+    /// Whether more than one operator of the level may stand in a row.
+    pub fn repeats(self) -> bool
+        ensures { result ≡ signs.repeats (level_view self) }
+    {
+        !matches!(self, Level::Equalities)
+    }
+}
+
+/// A call of this method.
+pub fn call(alloc: Global, on: Expr, name: &[u8], args: Exprs) -> Result<Expr, AllocError>
+    ensures { IfOk result (λ x. x ≡ Expr.Call (Some on) name.now args) }
+{
+    let name = Text::from_bytes(alloc, name)?;
+    Ok(Expr::Call {
+        on: Some(Boxed::new(alloc, on)?),
+        name,
+        args,
+    })
+}
+
+/// A call with one argument.
+pub fn call_with(alloc: Global, on: Expr, name: &[u8], arg: Expr) -> Result<Expr, AllocError>
+    ensures { IfOk result (λ x. x ≡ Expr.Call (Some on) name.now (arg ∷ [])) }
+{
+    let mut args = Exprs::new(alloc);
+    args.push(arg)?;
+    call(alloc, on, name, args)
+}
+
+pub fn negated(alloc: Global, x: Expr) -> Result<Expr, AllocError>
+    ensures { IfOk result (λ y. y ≡ Expr.Not x) }
+{
+    Ok(Expr::Not(Boxed::new(alloc, x)?))
+}
+
+/// `-x`: the call `-@`.
+pub fn minus(alloc: Global, x: Expr) -> Result<Expr, AllocError>
+    ensures { IfOk result (λ y. y ≡ Expr.Call (Some x) (codes "-@") []) }
+{
+    call(alloc, x, b"-@", Exprs::new(alloc))
+}
+
+/// The tree of an operator and its operands. `a != b` is not `a == b`.
+pub fn operation(
+    alloc: Global,
+    sign: u16,
+    operator: Word<'_>,
+    a: Expr,
+    b: Expr,
+) -> Result<Expr, AllocError>
+    requires { sign ≡ signs.sign (word_view operator) }
+    ensures { IfOk result (λ x. x ≡ operation (word_view operator.entry) a b) }
+{
+    if sign == OR_ELSE {
+        Ok(Expr::Or(Boxed::new(alloc, a)?, Boxed::new(alloc, b)?))
+    } else if sign == AND_ALSO {
+        Ok(Expr::And(Boxed::new(alloc, a)?, Boxed::new(alloc, b)?))
+    } else if sign == DIFFERS {
+        let same = call_with(alloc, a, b"==", b)?;
+        negated(alloc, same)
+    } else {
+        call_with(alloc, a, operator.text, b)
+    }
+}
+
+/// `test ? value : other`
+pub fn choice(alloc: Global, test: Expr, value: Expr, other: Expr) -> Result<Expr, AllocError>
+    ensures { IfOk result (λ x. x ≡ Expr.Choose test value other) }
+{
+    Ok(Expr::Choose(
+        Boxed::new(alloc, test)?,
+        Boxed::new(alloc, value)?,
+        Boxed::new(alloc, other)?,
+    ))
+}
