@@ -1,0 +1,5 @@
+pub mod Steps
+pub mod SimpleLaws
+pub mod ConditionLaws
+pub mod BlockLaws
+pub mod StatementLaws
