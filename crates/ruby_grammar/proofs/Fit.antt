@@ -17,7 +17,8 @@ use Rattle.ruby_token.proofs.Words.{split_if, drop_front}
 use Rattle.ruby_token.proofs.Cuts.{take_front}
 use Rattle.ruby_token.proofs.SpanLaws.{tokens_in, tokens_with}
 use Rattle.ruby_words.specs.Words.{word_rows}
-use Rattle.ruby_grammar.specs.Words.{text_of, words_behind, words_of}
+use Rattle.ruby_token.specs.Spans.{text_of}
+use Rattle.ruby_grammar.specs.Words.{words_behind, words_of}
 use Rattle.ruby_grammar.specs.Signs.{code_in, op_sign, kind_sign}
 use Rattle.ruby_grammar.specs.Numbers.{NumbersFit}
 use Rattle.ruby_grammar.proofs.Tools.{not_true, and_true}

@@ -1,7 +1,8 @@
 -- The words of which the grammar speaks: tokens with their texts.
-use Rattle.std.specs.Prelude.{ℕ, Bool, ◌==◌, List, [], ◌∷◌, take, drop, ◌-◌}
+use Rattle.std.specs.Prelude.{ℕ, Bool, ◌==◌, List, [], ◌∷◌}
 use Rattle.ruby_token.specs.declared.token.Token.{Token}
 use Rattle.ruby_token.specs.declared.token.TokenKind.{TokenKind}
+use Rattle.ruby_token.specs.Spans.{text_of}
 
 -- A word: its kind, its text, whether it stands directly behind the word before it, and its place, which no rule looks at.
 pub record Word : Type 0 where
@@ -9,10 +10,6 @@ pub record Word : Type 0 where
   pub text : List ℕ
   pub tight : Bool
   pub at : ℕ
-
--- the bytes of a token
-abbrev pub text_of : List ℕ → Token → List ℕ
-text_of bytes t = take (t.to - t.from) (drop t.from bytes)
 
 -- the words of these tokens, where the token before them ends at this place
 abbrev pub words_behind : List ℕ → ℕ → List Token → List Word

@@ -5,9 +5,10 @@ use Rattle.std.specs.List.{flat_map}
 use Rattle.std.proofs.lemmas.List.Folds.{flat_map-map}
 use Rattle.ruby_types.specs.declared.tree.Expr.{Expr, fold_out-Expr, map-Expr, out-Expr}
 use Rattle.ruby_types.specs.declared.tree.Part.{Part}
+use Rattle.ruby_types.specs.declared.tree.ConstRef.{ConstRef}
 use Rattle.ruby_types.specs.declared.tree.Expr.TheVariants as v
 use Rattle.ruby_types.specs.declared.tree.Expr.TheOpen.{Expr-F}
-use Rattle.ruby_print.specs.Pieces.{joined, grouped}
+use Rattle.ruby_print.specs.Pieces.{joined, grouped, constant_text}
 use Rattle.ruby_print.specs.Expressions.{Printed, left, right, members, pair_text, is_operator, call_on, before_receiver, behind_receiver, expression_step, part_step, expression, part, inner, inner_pair}
 
 level : (x : Expr) (l : Expr-F Expr Part) → out-Expr x ≡ l → expression x ≡ expression_step (map-Expr Expr Part Printed (List ℕ) expression part l)
@@ -24,8 +25,20 @@ inner_pairs : (ps : List (Expr × Expr)) → map pair_text (map (λ p. (expressi
 inner_pairs [] = refl
 inner_pairs (p ∷ ps) = ap (λ t. inner_pair p ∷ t) (inner_pairs ps)
 
-pub print-Array : (xs : List Expr) (inside : Bool) → expression (v.Array xs) inside ≡ 91 ∷ (joined (map inner xs) ++ 93 ∷ [])
-print-Array xs inside = ap (λ f. f inside) (level _ _ (v.outs-Array xs)) ∙ ap (λ t. 91 ∷ (t ++ 93 ∷ [])) (members_of xs)
+pub print-Sym : (name : List ℕ) (inside : Bool) → expression (v.Sym name) inside ≡ 58 ∷ name
+print-Sym name inside = ap (λ f. f inside) (level _ _ (v.outs-Sym name))
+
+pub print-Local : (name : List ℕ) (inside : Bool) → expression (v.Local name) inside ≡ name
+print-Local name inside = ap (λ f. f inside) (level _ _ (v.outs-Local name))
+
+pub print-Ivar : (name : List ℕ) (inside : Bool) → expression (v.Ivar name) inside ≡ 64 ∷ name
+print-Ivar name inside = ap (λ f. f inside) (level _ _ (v.outs-Ivar name))
+
+pub print-Const : (constant : ConstRef) (inside : Bool) → expression (v.Const constant) inside ≡ constant_text constant
+print-Const constant inside = ap (λ f. f inside) (level _ _ (v.outs-Const constant))
+
+pub print-Array : (xs : List Expr) (inside : Bool) → expression (v.Array xs) inside ≡ 91 ∷ (members (map expression xs) ++ 93 ∷ [])
+print-Array xs inside = ap (λ f. f inside) (level _ _ (v.outs-Array xs))
 
 pub print-Str : (ps : List Part) (inside : Bool) → expression (v.Str ps) inside ≡ 34 ∷ (flat_map part ps ++ 34 ∷ [])
 print-Str ps inside = ap (λ f. f inside) (level _ _ (v.outs-Str ps)) ∙ ap (λ t. 34 ∷ (t ++ 34 ∷ [])) (flat_map-map (λ t. t) part ps)

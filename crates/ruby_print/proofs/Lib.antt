@@ -1,3 +1,5 @@
 pub mod Joins
 pub mod ExpressionLaws
+pub mod PendingLaws
+pub mod BeginningLaws
 pub mod StatementLaws

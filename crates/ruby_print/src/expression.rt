@@ -1,15 +1,20 @@
-ghost use Rattle.std.specs.Prelude.{◌≡◌, ◌++◌, ◌∷◌, [], map, codes, OnOk, IsTrue, Some, if◌then◌else◌};
+ghost use Rattle.std.specs.Prelude.{◌≡◌, ◌≤◌, ◌<◌, ◌+◌, ◌*◌, ◌++◌, ◌∷◌, [], max, map, OnOk};
 ghost use Rattle.std.specs.List.{flat_map};
 ghost use Rattle.std.specs.Fmt.{signed_decimal};
 ghost use Rattle.ruby_print.specs.Pieces as pieces;
+ghost use Rattle.ruby_types.specs.declared.tree.Expr.{size-Expr};
 ghost use Rattle.ruby_print.specs.Expressions as spec;
+ghost use Rattle.ruby_print.specs.Pending.{pending_text, piece_text, depth, piece_depth, steps, piece_steps, links};
 
+use crate::operators::{close, is_operator};
+use crate::pending::{Pending, begin_both, begin_call, begin_choice, begin_last, push_operator};
 use crate::pieces::{push_comma, push_constant, push_escapes, push_ivar, push_symbol};
 use plain_text::decimal;
 use ruby_types::{Expr, Part, Text};
 use std::alloc::{AllocError, Global};
 
-/// An expression, which stands inside another or alone.
+/// An expression, which stands inside another or alone. What stands behind its operands is kept in a list of pieces, so
+/// that a chain of operands of any length is written without recursion.
 #[cycle(expression)]
 pub fn push_expression(
     alloc: Global,
@@ -19,60 +24,71 @@ pub fn push_expression(
 ) -> Result<(), AllocError>
     ensures { OnOk result (written.new.items ≡ written.old.items ++ spec.expression expr.now inside) }
 {
+    let mut pending = Vec::new(alloc);
+    push_beginning(alloc, written, &mut pending, expr, inside)?;
+    'pieces: while let Some(piece) = pending.pop() {
+        push_piece(alloc, written, &mut pending, piece)?;
+    }
+    Ok(())
+}
+
+/// The next piece, up to its first operand; the rest is pending.
+#[cycle(expression)]
+fn push_piece<'a>(
+    alloc: Global,
+    written: &mut Vec<u8>,
+    pending: &mut Vec<Pending<'a>>,
+    piece: Pending<'a>,
+) -> Result<(), AllocError>
+    ensures text { OnOk result (written.new.items ++ pending_text pending.new.items ≡ written.old.items ++ (piece_text piece.entry ++ pending_text pending.old.items)) }
+    ensures depth { OnOk result (depth pending.new.items ≤ max (depth pending.old.items) (piece_depth piece.entry)) }
+    ensures steps { OnOk result (steps pending.new.items < steps pending.old.items + piece_steps piece.entry) }
+{
+    match piece {
+        Pending::Operand(expr) => push_beginning(alloc, written, pending, expr, true),
+        Pending::Operator(operator, expr, inside) => {
+            push_operator(written, pending, operator, expr, inside)
+        }
+        Pending::Behind(name, args, inside) => push_behind(alloc, written, name, args, inside),
+        Pending::Close => close(written, true),
+    }
+}
+
+/// What of an expression stands before its first operand; the rest is pending.
+#[cycle(expression)]
+fn push_beginning<'a>(
+    alloc: Global,
+    written: &mut Vec<u8>,
+    pending: &mut Vec<Pending<'a>>,
+    expr: &'a Expr,
+    inside: bool,
+) -> Result<(), AllocError>
+    ensures text { OnOk result (written.new.items ++ pending_text pending.new.items ≡ written.old.items ++ (spec.expression expr.now inside ++ pending_text pending.old.items)) }
+    ensures depth { OnOk result (depth pending.new.items ≤ max (depth pending.old.items) (size-Expr expr.now)) }
+    ensures steps { OnOk result (steps pending.new.items < steps pending.old.items + 2 * links expr.now) }
+{
     match expr {
         Expr::Nil => written.extend_from_slice(b"nil"),
         Expr::True => written.extend_from_slice(b"true"),
         Expr::False => written.extend_from_slice(b"false"),
         Expr::SelfRef => written.extend_from_slice(b"self"),
         Expr::Int(number) => push_number(alloc, written, *number),
-        Expr::Str(parts) => {
-            written.push(b'"')?;
-            push_parts(alloc, written, parts.as_slice())?;
-            written.push(b'"')?;
-            Ok(())
-        }
+        Expr::Str(parts) => push_text(alloc, written, parts.as_slice()),
         Expr::Sym(name) => push_symbol(written, name),
         Expr::Local(name) => written.extend_from_slice(name.as_bytes()),
         Expr::Ivar(name) => push_ivar(written, name),
         Expr::Const(constant) => push_constant(alloc, written, constant),
-        Expr::Array(items) => {
-            written.push(b'[')?;
-            push_members(alloc, written, items.as_slice())?;
-            written.push(b']')?;
-            Ok(())
-        }
-        Expr::Hash(pairs) => {
-            written.push(b'{')?;
-            push_pairs(alloc, written, pairs.as_slice())?;
-            written.push(b'}')?;
-            Ok(())
-        }
+        Expr::Array(items) => push_bracketed(alloc, written, items.as_slice()),
+        Expr::Hash(pairs) => push_hash(alloc, written, pairs.as_slice()),
         Expr::Call { on, name, args } => match on {
-            None => {
-                written.extend_from_slice(name.as_bytes())?;
-                push_grouped(alloc, written, args.as_slice())
-            }
-            Some(on) => {
-                push_receiver(alloc, written, on.get(), name, inside)?;
-                push_behind(alloc, written, name, args.as_slice(), inside)
-            }
+            None => push_own(alloc, written, name, args.as_slice()),
+            Some(on) => begin_call(written, pending, on.get(), name, args.as_slice(), inside),
         },
-        Expr::Not(a) => {
-            push_sign(written, b"!", inside)?;
-            push_last(alloc, written, a.get(), inside)
-        }
-        Expr::And(a, b) => {
-            push_first(alloc, written, a.get(), b" && ", inside)?;
-            push_last(alloc, written, b.get(), inside)
-        }
-        Expr::Or(a, b) => {
-            push_first(alloc, written, a.get(), b" || ", inside)?;
-            push_last(alloc, written, b.get(), inside)
-        }
+        Expr::Not(a) => begin_last(written, pending, b"!", a.get(), inside),
+        Expr::And(a, b) => begin_both(written, pending, a.get(), b" && ", b.get(), inside),
+        Expr::Or(a, b) => begin_both(written, pending, a.get(), b" || ", b.get(), inside),
         Expr::Choose(a, b, c) => {
-            push_first(alloc, written, a.get(), b" ? ", inside)?;
-            push_middle(alloc, written, b.get(), b" : ")?;
-            push_last(alloc, written, c.get(), inside)
+            begin_choice(written, pending, a.get(), b.get(), c.get(), inside)
         }
     }
 }
@@ -84,71 +100,40 @@ fn push_number(alloc: Global, written: &mut Vec<u8>, number: i64) -> Result<(), 
     written.extend_from_slice(digits.as_bytes())
 }
 
-/// The parenthesis before an operator expression that stands inside another.
-fn open(written: &mut Vec<u8>, inside: bool) -> Result<(), AllocError>
-    ensures { OnOk result (written.new.items ≡ written.old.items ++ spec.left inside) }
+/// A text in double quotes.
+#[cycle(expression)]
+fn push_text(alloc: Global, written: &mut Vec<u8>, parts: &[Part]) -> Result<(), AllocError>
+    ensures { OnOk result (written.new.items ≡ written.old.items ++ (34 ∷ (flat_map spec.part parts.now ++ 34 ∷ []))) }
 {
-    if inside {
-        written.push(b'(')?;
-    }
+    written.push(b'"')?;
+    push_parts(alloc, written, parts)?;
+    written.push(b'"')?;
     Ok(())
 }
 
-/// The parenthesis behind an operator expression that stands inside another.
-fn close(written: &mut Vec<u8>, inside: bool) -> Result<(), AllocError>
-    ensures { OnOk result (written.new.items ≡ written.old.items ++ spec.right inside) }
+/// A hash in braces.
+#[cycle(expression)]
+fn push_hash(alloc: Global, written: &mut Vec<u8>, pairs: &[(Expr, Expr)]) -> Result<(), AllocError>
+    ensures { OnOk result (written.new.items ≡ written.old.items ++ (123 ∷ (pieces.joined (map spec.inner_pair pairs.now) ++ 125 ∷ []))) }
 {
-    if inside {
-        written.push(b')')?;
-    }
+    written.push(b'{')?;
+    push_pairs(alloc, written, pairs)?;
+    written.push(b'}')?;
     Ok(())
 }
 
-/// An operator before its operand.
-fn push_sign(written: &mut Vec<u8>, operator: &[u8], inside: bool) -> Result<(), AllocError>
-    ensures { OnOk result (written.new.items ≡ written.old.items ++ (spec.left inside ++ operator.now)) }
-{
-    open(written, inside)?;
-    written.extend_from_slice(operator)
-}
-
-/// The first operand of an operator, and the operator.
+/// A call on self.
 #[cycle(expression)]
-fn push_first(
+fn push_own(
     alloc: Global,
     written: &mut Vec<u8>,
-    a: &Expr,
-    operator: &[u8],
-    inside: bool,
+    name: &Text,
+    args: &[Expr],
 ) -> Result<(), AllocError>
-    ensures { OnOk result (written.new.items ≡ written.old.items ++ (spec.left inside ++ (spec.inner a.now ++ operator.now))) }
+    ensures { OnOk result (written.new.items ≡ written.old.items ++ (name.now ++ pieces.grouped (spec.members (map spec.expression args.now)))) }
 {
-    open(written, inside)?;
-    push_expression(alloc, written, a, true)?;
-    written.extend_from_slice(operator)
-}
-
-/// An operand between two operators, and the second of these.
-#[cycle(expression)]
-fn push_middle(
-    alloc: Global,
-    written: &mut Vec<u8>,
-    a: &Expr,
-    operator: &[u8],
-) -> Result<(), AllocError>
-    ensures { OnOk result (written.new.items ≡ written.old.items ++ (spec.inner a.now ++ operator.now)) }
-{
-    push_expression(alloc, written, a, true)?;
-    written.extend_from_slice(operator)
-}
-
-/// The last operand of an operator.
-#[cycle(expression)]
-fn push_last(alloc: Global, written: &mut Vec<u8>, a: &Expr, inside: bool) -> Result<(), AllocError>
-    ensures { OnOk result (written.new.items ≡ written.old.items ++ (spec.inner a.now ++ spec.right inside)) }
-{
-    push_expression(alloc, written, a, true)?;
-    close(written, inside)
+    written.extend_from_slice(name.as_bytes())?;
+    push_grouped(alloc, written, args)
 }
 
 /// Arguments in parentheses.
@@ -160,47 +145,6 @@ fn push_grouped(alloc: Global, written: &mut Vec<u8>, args: &[Expr]) -> Result<(
     push_members(alloc, written, args)?;
     written.push(b')')?;
     Ok(())
-}
-
-/// A call on an expression, up to the end of its receiver.
-#[cycle(expression)]
-fn push_receiver(
-    alloc: Global,
-    written: &mut Vec<u8>,
-    on: &Expr,
-    name: &Text,
-    inside: bool,
-) -> Result<(), AllocError>
-    ensures { OnOk result (written.new.items ≡ written.old.items ++ (spec.before_receiver name.now inside ++ spec.inner on.now)) }
-{
-    push_before(written, name.as_bytes(), inside)?;
-    push_expression(alloc, written, on, true)
-}
-
-/// What stands before the receiver of a call.
-fn push_before(written: &mut Vec<u8>, name: &[u8], inside: bool) -> Result<(), AllocError>
-    ensures { OnOk result (written.new.items ≡ written.old.items ++ spec.before_receiver name.now inside) }
-{
-    if name == b"[]".as_slice() {
-        return Ok(());
-    }
-    if name == b"-@".as_slice() {
-        return push_sign(written, b"- ", inside);
-    }
-    if is_operator(name) {
-        return open(written, inside);
-    }
-    Ok(())
-}
-
-/// Whether a method's name is an operator.
-fn is_operator(name: &[u8]) -> bool
-    ensures { result ≡ spec.is_operator name.now }
-{
-    match name.first() {
-        None => false,
-        Some(byte) => !(byte.is_ascii_lowercase() || *byte == b'_'),
-    }
 }
 
 /// The rest of a call behind its receiver.
@@ -215,7 +159,7 @@ fn push_behind(
     ensures { OnOk result (written.new.items ≡ written.old.items ++ spec.behind_receiver name.now (map spec.expression args.now) inside) }
 {
     if name.as_bytes() == b"[]".as_slice() {
-        return push_index(alloc, written, args);
+        return push_bracketed(alloc, written, args);
     }
     if name.as_bytes() == b"-@".as_slice() {
         return close(written, inside);
@@ -226,9 +170,9 @@ fn push_behind(
     push_method(alloc, written, name, args)
 }
 
-/// `[x]`
+/// Expressions in brackets.
 #[cycle(expression)]
-fn push_index(alloc: Global, written: &mut Vec<u8>, args: &[Expr]) -> Result<(), AllocError>
+fn push_bracketed(alloc: Global, written: &mut Vec<u8>, args: &[Expr]) -> Result<(), AllocError>
     ensures { OnOk result (written.new.items ≡ written.old.items ++ (91 ∷ (spec.members (map spec.expression args.now) ++ 93 ∷ []))) }
 {
     written.push(b'[')?;

@@ -6,6 +6,8 @@
 
 mod definition;
 mod expression;
+mod operators;
+mod pending;
 mod pieces;
 mod statement;
 

@@ -1,10 +1,8 @@
 use crate::make::*;
 use lists::Listed;
-use ruby_print::print;
-use ruby_types::{Def, Expr, FileTree, Part};
+use ruby_types::{Expr, Part};
 use std::alloc::{AllocError, Global};
 use std::test::Fail;
-use std::thread;
 
 #[test]
 fn words_and_numbers_are_written_plainly(rt: HostRuntime) -> Result<(), Fail> {
@@ -158,46 +156,5 @@ fn a_choice_inside_another_stands_in_parentheses(rt: HostRuntime) -> Result<(), 
         inner,
     )?;
     assert!(rt; is_printed(alloc, outer, b"X = (nil || true) ? :c : (true ? 1 : :b)\n")?);
-    Ok(())
-}
-
-/// How many bytes a file is written as that is `X = ` and this expression.
-fn written_size(alloc: Global, value: Expr) -> Option<usize> {
-    let name = text(alloc, b"X").ok()?;
-    let mut tree = FileTree {
-        defs: Listed::new(alloc),
-    };
-    tree.defs.push(Def::Assign { name, value }).ok()?;
-    Some(print(alloc, &tree).ok()?.len())
-}
-
-/// The size of a chain of so many calls.
-fn chain_size(alloc: Global, levels: u32) -> Option<usize> {
-    let mut chain = Expr::SelfRef;
-    for _ in 0..levels {
-        chain = send(alloc, chain, b"b").ok()?;
-    }
-    written_size(alloc, chain)
-}
-
-/// The size of a sum of so many numbers.
-fn sum_size(alloc: Global, levels: u32) -> Option<usize> {
-    let mut sum = Expr::Int(1);
-    for _ in 0..levels {
-        sum = operation(alloc, sum, b"+", Expr::Int(1)).ok()?;
-    }
-    written_size(alloc, sum)
-}
-
-#[test]
-fn chains_of_a_hundred_thousand_levels_are_written(rt: HostRuntime) -> Result<(), Fail> {
-    let alloc = rt.alloc();
-    let deep = thread::Builder::new().stack_size(1 << 30);
-    let sizes = deep
-        .spawn(&rt, move || {
-            (chain_size(alloc, 100_000), sum_size(alloc, 100_000))
-        })?
-        .join(&rt);
-    assert_eq!(rt; sizes, (Some(200_009), Some(600_004)));
     Ok(())
 }

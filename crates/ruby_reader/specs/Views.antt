@@ -1,9 +1,8 @@
 -- The words of the grammar, as the reader has them.
-use Rattle.std.specs.Prelude.{◌≡◌, ℕ, Bool, true, false, ◌==◌, ◌&&◌, ◌||◌, nat_le, List, [], ◌∷◌}
-use Rattle.ruby_token.specs.Number.{is_in_range}
+use Rattle.std.specs.Prelude.{ℕ, Bool, ◌==◌, ◌&&◌, ◌||◌, nat_le, List, [], ◌∷◌}
 use Rattle.ruby_reader.specs.declared.word.Word.{Word as Held}
 use Rattle.ruby_grammar.specs.Words.{Word}
-use Rattle.ruby_grammar.specs.Signs.{sign, is_int}
+use Rattle.ruby_grammar.specs.Signs.{sign}
 
 -- the word that is held
 abbrev pub word_view : Held → Word
@@ -25,8 +24,3 @@ expression_sign n =
 
 abbrev pub statement_sign : ℕ → Bool
 statement_sign n = expression_sign n || (n == 10) || (n == 15) || (n == 5) || (n == 8)
-
--- each number among these words is one from -2^63 to 2^63 - 1
-abbrev pub NumbersFit : List Word → Type 0
-NumbersFit [] = Unit {0}
-NumbersFit (w ∷ ws) = (is_int w ≡ true → is_in_range w.text ≡ true) × NumbersFit ws

@@ -3,12 +3,14 @@
 ghost use Rattle.std.specs.Prelude.{◌≡◌, ◌∷◌, ◌&&◌, ◌==◌, ◌<◌, [], drop, true, false, MatchOption, IfOk, OnOk, OnErr, IfErr};
 ghost use Rattle.ruby_words.specs.Words.{word_rows};
 ghost use Rattle.ruby_grammar.specs.Words as spec;
-ghost use Rattle.ruby_grammar.specs.Words.{text_of, words_of, words_behind};
+ghost use Rattle.ruby_token.specs.Spans.{text_of};
+ghost use Rattle.ruby_grammar.specs.Words.{words_of, words_behind};
+ghost use Rattle.ruby_grammar.specs.Numbers.{NumbersFit};
 ghost use Rattle.ruby_grammar.specs.Values.{number_of};
 ghost use Rattle.ruby_grammar.specs.Signs.{is, is_assign, is_int};
 ghost use Rattle.ruby_grammar.specs.Choices.{next_is};
 ghost use Rattle.descent.specs.Reading.{head, second};
-ghost use Rattle.ruby_reader.specs.Views.{word_view, head_sign, NumbersFit};
+ghost use Rattle.ruby_reader.specs.Views.{word_view, head_sign};
 
 use crate::fault::Fault;
 use crate::numbers::value;
@@ -34,7 +36,8 @@ impl<'a> Model for Reader<'a> {
     ghost use Rattle.std.specs.Prelude.{◌≡◌, List};
     ghost use Rattle.ruby_words.specs.Words.{word_rows};
     ghost use Rattle.ruby_grammar.specs.Words.{Word, words_behind};
-    ghost use Rattle.ruby_reader.specs.Views.{head_sign, NumbersFit};
+    ghost use Rattle.ruby_grammar.specs.Numbers.{NumbersFit};
+    ghost use Rattle.ruby_reader.specs.Views.{head_sign};
 
     ghost Value = { List Word };
 

@@ -1,0 +1,9 @@
+pub mod Pieces
+pub mod Expressions
+pub mod Statements
+pub mod Definitions
+pub mod Names
+pub mod Formed
+pub mod FormedStatements
+pub mod FormedFiles
+pub mod Reprinted

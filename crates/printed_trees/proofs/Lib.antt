@@ -1,0 +1,12 @@
+pub mod Meaning
+pub mod Reading
+pub mod Escapes
+pub mod WordKinds
+pub mod Words
+pub mod Lists
+pub mod Expressions
+pub mod Statements
+pub mod Bodies
+pub mod Boundaries
+pub mod Sounding
+pub mod Law

@@ -1,0 +1,15 @@
+pub mod Building
+pub mod Texts
+pub mod Folds
+pub mod Lifting
+pub mod Primaries
+pub mod Lists
+pub mod Calls
+pub mod Operations
+pub mod Expressions
+pub mod Branches
+pub mod Statements
+pub mod Marked
+pub mod Bodies
+pub mod Definitions
+pub mod Law
