@@ -11,6 +11,9 @@ Run in a Rails application's folder.\n\
   --help         this text\n\
   --version      the version\n\
 \n\
+`get` reads applications of controllers alone today: in app/controllers/NAME_controller.rb a class without a\n\
+parent, whose one method `def self.ACTION(params)` gives one text. A file's syntax error is answered with 500.\n\
+\n\
 Not built yet: check, check eager, replay, demo N, serve ADDRESS WORKERS [CONNECTIONS].\n\
 \n\
 exit status: 0 done, 1 answered but not 200, 2 faulty command line, 3 the files could not be read,\n\

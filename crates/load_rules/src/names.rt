@@ -3,6 +3,7 @@ ghost use Rattle.std.specs.Prelude.{◌≡◌, ℕ, List, ◌↔◌, IsTrue, IfO
 ghost use Rattle.std.specs.List.{list_all};
 ghost use Rattle.std.specs.Char.{is_ascii_lowercase};
 ghost use Rattle.load_rules.specs.Names.{IsLetters, first_path, class_name};
+ghost use Rattle.load_rules.specs.Readings.{IsAskedOf};
 
 use ruby_types::Text;
 use std::alloc::{AllocError, Global};
@@ -52,4 +53,27 @@ pub fn controller_path(alloc: Global, name: &[u8]) -> Result<Text, AllocError>
     path.extend_from_slice(name)?;
     path.extend_from_slice(b"_controller.rb")?;
     Text::from_vec(alloc, path)
+}
+
+/// What a request asks for: the action, and its controller's file and class.
+#[derive(Drop)]
+pub struct Asked<'a> {
+    pub path: Text,
+    pub class: Text,
+    pub action: &'a [u8],
+}
+
+/// The action of a controller.
+pub fn asked_of<'a>(
+    alloc: Global,
+    controller: &[u8],
+    action: &'a [u8],
+) -> Result<Asked<'a>, AllocError>
+    ensures { IfOk result (IsAskedOf controller.now action.now) }
+{
+    Ok(Asked {
+        path: controller_path(alloc, controller)?,
+        class: controller_class(alloc, controller)?,
+        action,
+    })
 }

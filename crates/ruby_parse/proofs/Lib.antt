@@ -1,7 +1,1 @@
-pub mod AnswerLaws
-pub mod Filling
-pub mod FormLaws
-pub mod Lexing
-pub mod MethodLaws
-pub mod NameLaws
-pub mod Steps
+pub mod Stopping

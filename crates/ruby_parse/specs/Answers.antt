@@ -1,33 +1,18 @@
--- What reading a file of the first form answers.
-use Rattle.std.specs.Prelude.{◌≡◌, ℕ, List, ◌⊎◌, Result, Ok, Err, length}
-use Rattle.ruby_types.specs.declared.tree.FileTree.{FileTree}
-use Rattle.ruby_parse.specs.declared.parse.FirstFault.{FirstFault}
-use Rattle.ruby_parse.specs.declared.parse.FirstFault.TheVariants as fault
-use Rattle.ruby_parse.specs.FirstForm.{FirstParts, FirstFile, IsCutOff}
-use Rattle.ruby_parse.specs.Trees.{first_tree}
-use Rattle.ruby_parse.specs.Reading.{Outcome, Whole, Ended, Other}
+-- What `parse` answers for bytes that are no text of the profile.
+use Rattle.std.specs.Prelude.{◌≡◌, ℕ, List}
+use Rattle.ruby_grammar.specs.Faults.{NoText, lexical, of_grammar, expected, not_in_profile, too_deep, twice_defined}
+use Rattle.ruby_parse.specs.declared.fault.SyntaxFault.{SyntaxFault}
+use Rattle.ruby_parse.specs.declared.fault.SyntaxKind.{SyntaxKind}
+use Rattle.ruby_parse.specs.declared.fault.SyntaxKind.TheVariants as k
 
--- the bytes are a file of the first form, and this is its tree
-abbrev pub FirstFileTree : List ℕ → List ℕ → FileTree → Type 0
-FirstFileTree class bytes tree = (parts : FirstParts) × (FirstFile class bytes parts × (tree ≡ first_tree class parts))
+-- the first fault of the bytes stands here and is of this kind; want of memory stands at 0 and may come for any bytes
+abbrev pub FaultStands : List ℕ → ℕ → SyntaxKind → Type 0
+FaultStands bytes at k.Lex = NoText bytes at lexical
+FaultStands bytes at k.Expected = NoText bytes at (of_grammar expected)
+FaultStands bytes at k.NotInProfile = NoText bytes at (of_grammar not_in_profile)
+FaultStands bytes at k.TooDeep = NoText bytes at (of_grammar too_deep)
+FaultStands bytes at k.TwiceDefined = NoText bytes at (of_grammar twice_defined)
+FaultStands bytes at k.Memory = at ≡ 0
 
--- the bytes are a file that breaks off, and the place is its length
-abbrev pub IsCutAt : List ℕ → List ℕ → ℕ → Type 0
-IsCutAt class bytes place = IsCutOff class bytes × (place ≡ length bytes)
-
--- the fact holds, or memory ran out
-abbrev pub OrMemory : Result FileTree FirstFault → Type 0 → Type 0
-OrMemory result fact = fact ⊎ (result ≡ Err fault.Memory)
-
--- how an answer belongs to what was read: what the code is proved by
-abbrev pub Agrees : List ℕ → List ℕ → Result FileTree FirstFault → Outcome → Type 0
-Agrees class bytes (Ok tree) (Whole parts) = tree ≡ first_tree class parts
-Agrees class bytes (Ok tree) Ended = ⊥
-Agrees class bytes (Ok tree) Other = ⊥
-Agrees class bytes (Err (fault.Cut place)) (Whole parts) = ⊥
-Agrees class bytes (Err (fault.Cut place)) Ended = place ≡ length bytes
-Agrees class bytes (Err (fault.Cut place)) Other = ⊥
-Agrees class bytes (Err fault.NotBuilt) (Whole parts) = ⊥
-Agrees class bytes (Err fault.NotBuilt) Ended = ⊥
-Agrees class bytes (Err fault.NotBuilt) Other = Unit {0}
-Agrees class bytes (Err fault.Memory) outcome = Unit {0}
+abbrev pub IsFaultOf : List ℕ → SyntaxFault → Type 0
+IsFaultOf bytes e = FaultStands bytes e.at e.kind

@@ -1,9 +1,2 @@
 pub mod Answers
-pub mod FirstForm
-pub mod Forms
-pub mod Lexemes
-pub mod Methods
-pub mod Names
-pub mod Reading
-pub mod Tokens
-pub mod Trees
+pub mod Stops

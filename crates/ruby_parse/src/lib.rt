@@ -1,11 +1,9 @@
-//! Reads one form of controller file: a class with one singleton method of one parameter, whose body is one text.
+//! Files of the Ruby profile as trees: [`parse`] gives a file's tree or its first fault.
 #![tactic(auto)]
 
-mod form;
-mod lexer;
-mod method;
-mod names;
-mod parse;
+mod fault;
+mod file;
+mod words;
 
-pub use method::{FirstMethod, first_method};
-pub use parse::{FirstFault, parse_first};
+pub use fault::{SyntaxFault, SyntaxKind};
+pub use file::parse;

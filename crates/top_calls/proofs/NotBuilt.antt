@@ -5,10 +5,10 @@ use Rattle.load_rules.specs.FirstReply.{IsReadable}
 use Rattle.top_calls.specs.Words.{IsCommandLine}
 use Rattle.tree_report.specs.Limits.{IsWithinLimits}
 use Rattle.tree_report.specs.declared.refusal.Refusal.{Refusal}
-use Rattle.tree_command.specs.Tree.{IsTreeListing, IsRefused}
+use Rattle.tree_command.specs.Tree.{IsRefused}
 use Rattle.tree_command.proofs.OneLaws.{never_both}
 use Rattle.top_calls.proofs.Commands.{get_is_no_tree, tree_is_command}
-use Rattle.top_calls.specs.Output.{code_of, IsFirstGet, IsOtherApplication, IsNotBuilt, IsFault, Answer, other_application, replies, Output, faulty_words, other_command, answers, tells, tree_words, TreeAnswer, lists, refuses, IsTreeRefused, WritesOn}
+use Rattle.top_calls.specs.Output.{code_of, IsFirstGet, IsOtherApplication, IsNotBuilt, IsFault, Answer, other_application, replies, Output, faulty_words, other_command, answers, tells, TreeAnswer, lists, refuses, IsTreeRefused, WritesOn}
 use Rattle.top_calls.specs.declared.words.CommandName.TheVariants.{Get}
 use Rattle.top_calls.specs.declared.status.Status.{Status}
 use Rattle.top_calls.specs.declared.status.Status.TheVariants.{Done, Negative, FaultyWords, TreeFault, WriteFault, Memory, Refused, NotBuilt}

@@ -1,11 +1,9 @@
 -- How an answer's output was written.
-use Rattle.std.proofs.Common.{◌≡◌, ◌⊎◌, inl, inr, ℕ, zero, suc, ◌<◌, ◌≤◌, ◌^◌, List, [], ◌∷◌, ◌++◌, length, map, All, Option, Some, None, IfSome, ◌==◌, slice_index_or, append-nil, refl, sym, ap, subst, arith}
-use Rattle.std.specs.List.{sum}
-use Rattle.std.proofs.lemmas.Grind.{common_steps}
+use Rattle.std.proofs.Common.{◌≡◌, ◌⊎◌, inl, inr, ℕ, List, [], ◌∷◌, ◌++◌, All, Option, Some, None, IfSome, ◌==◌, append-nil, refl, sym, ap, subst}
 use Rattle.outside.specs.Faults.{Counts}
 use Rattle.outside.specs.declared.files.FileEntry.{FileEntry}
 use Rattle.ruby_types.specs.declared.request.Reply.{Reply}
-use Rattle.load_rules.specs.FirstReply.{FirstReply, no_controller, cut_off, no_action, answers as answers_text, IsReadable}
+use Rattle.load_rules.specs.FirstReply.{FirstReply, no_controller, no_tree, no_action, answers as answers_text, IsReadable}
 use Rattle.outside.specs.Told.{appended}
 use Rattle.top_calls.specs.Words.{IsCommandLine}
 use Rattle.tree_report.specs.Limits.{IsWithinLimits}
@@ -39,7 +37,7 @@ reply_written files controller action reply status before now within readable fi
 
 pub known_status : (files : List FileEntry) (controller action : List ℕ) (reply : Reply) → FirstReply files controller action reply → (reply.status ≡ 200) ⊎ (reply.status ≡ 404) ⊎ (reply.status ≡ 500)
 known_status files controller action reply (no_controller none) = inr (inl refl)
-known_status files controller action reply (cut_off file is cut) = inr (inr refl)
+known_status files controller action reply (no_tree file at why is fault) = inr (inr refl)
 known_status files controller action reply (no_action file parts is text other) = inr (inl refl)
 known_status files controller action reply (answers_text file parts is text same) = inl refl
 

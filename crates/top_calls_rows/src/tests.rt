@@ -6,7 +6,7 @@ use std::process::Abort;
 use std::test::Fail;
 use top_calls::once_main;
 
-const FILE: &str = "app/controllers/hello_controller.rb";
+pub(crate) const FILE: &str = "app/controllers/hello_controller.rb";
 
 const HELLO: &[u8] = b"class HelloController\n  def self.index(params)\n    \"hi\"\n  end\nend\n";
 
