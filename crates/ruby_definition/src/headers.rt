@@ -8,12 +8,12 @@ ghost use Rattle.ruby_definition.specs.Parts.{GivesPath, GivesParent, GivesModul
 ghost use Rattle.ruby_definition.specs.Places.{body_view};
 
 use crate::counting::count;
-use crate::paths::{longer, path_rest};
+use crate::paths::allowed_rest;
 use crate::place::Place;
 use ruby_marks::{Act, Marks};
 use ruby_reader::signs::{CONST, LESS, LINE};
 use ruby_reader::{Fault, Reader};
-use ruby_steps::constant;
+use ruby_steps::{constant, longer};
 use ruby_types::{CPath, ConstRef};
 use ruby_words::{CLASS, MODULE};
 
@@ -38,7 +38,7 @@ fn path_as_written(place: Place<'_>, reader: &mut Reader<'_>) -> Result<Written,
 {
     let first = reader.taken(CONST)?;
     let path = longer(place.alloc, CPath::new(place.alloc), first.text)?;
-    let path = path_rest(place.alloc, place.is_top(), path, reader)?;
+    let path = allowed_rest(place.alloc, place.is_top(), path, reader)?;
     Ok(Written { path, at: first.at })
 }
 

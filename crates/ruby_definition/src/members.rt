@@ -12,13 +12,12 @@ ghost use Rattle.ruby_definition.specs.Places.{body_view};
 
 use crate::counting::count;
 use crate::methods::method;
-use crate::paths::longer;
 use crate::place::Place;
 use lists::Copying;
 use ruby_marks::{Act, Marks};
 use ruby_reader::signs::{ASSIGN, COMMA, CONST, SYM};
 use ruby_reader::{Fault, Reader, behind_sign};
-use ruby_steps::{constant, opened};
+use ruby_steps::{constant, longer, opened};
 use ruby_types::{Def, Text, TextList};
 use ruby_words::{ATTR_READER, DEF, INCLUDE};
 

@@ -1,5 +1,5 @@
 mod Magnitude
 mod Codes
 mod Suffix
-mod KeyLaws
+pub mod KeyLaws
 mod Fitting

@@ -1,20 +1,17 @@
 -- How lists of expressions and of pairs are read.
-use Rattle.std.proofs.Common.{◌≡◌, ℕ, Bool, true, false, ◌||◌, cond, List, [], ◌∷◌, ◌++◌, drop, refl, sym, ap, ◌∙◌, subst, Result, Ok, Err}
-use Rattle.descent.specs.Grammar.{Prod, give, token, call, only}
+use Rattle.std.proofs.Common.{◌≡◌, Bool, true, false, cond, List, [], ◌∷◌, ◌++◌, drop, refl, ap, ◌∙◌, Result, Ok, Err}
+use Rattle.descent.specs.Grammar.{give, token, only}
 use Rattle.descent.specs.Reading.{take, head, choose}
 use Rattle.ruby_types.specs.declared.tree.Expr.{Expr}
-use Rattle.ruby_types.specs.declared.tree.Expr.TheVariants as expr
 use Rattle.ruby_grammar.specs.Words.{Word}
-use Rattle.ruby_grammar.specs.Signs.{is_comma, is_label, is_arrow}
-use Rattle.ruby_grammar.specs.Rules.{ruby, Scope, some_expressions, expression, members, more_members, pairs, more_pairs, pair}
-use Rattle.ruby_grammar.specs.Values.{before_colon}
-use Rattle.ruby_grammar.specs.Expressions.{member_then, pair_then, label_pair, arrow_pair}
-use Rattle.ruby_grammar.specs.Choices.{ruby_choices, next_is, starts_expression, starts_pair}
+use Rattle.ruby_grammar.specs.Signs.{is_comma}
+use Rattle.ruby_grammar.specs.Rules.{Scope, some_expressions, expression, members, more_members}
+use Rattle.ruby_grammar.specs.Expressions.{member_then}
+use Rattle.ruby_grammar.specs.Choices.{ruby_choices, next_is, starts_expression}
 use Rattle.ruby_reader.specs.Views.{head_sign, expression_sign}
 use Rattle.ruby_reader.specs.declared.fault.Fault.{Fault}
-use Rattle.ruby_reader.specs.declared.fault.Fault.TheVariants as f
-use Rattle.ruby_steps.specs.Gives.{Gives, GivesRule}
-use Rattle.ruby_steps.proofs.Descent.{g_give, g_chosen, g_word, g_skip, g_lacks, g_then, g_fails}
+use Rattle.ruby_steps.specs.Gives.{GivesRule}
+use Rattle.ruby_steps.proofs.Descent.{g_give, g_chosen, g_skip, g_then, g_fails}
 
 pub starts_is : (ws : List Word) → next_is starts_expression (head ws) ≡ expression_sign (head_sign ws)
 starts_is [] = refl

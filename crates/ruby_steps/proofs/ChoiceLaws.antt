@@ -1,15 +1,15 @@
 -- How choices are read with a stack.
-use Rattle.std.proofs.Common.{◌≡◌, ℕ, ◌-◌, length, arith, Bool, true, false, cond, List, [], ◌∷◌, ◌++◌, drop, refl, sym, ap, ◌∙◌, subst, Result, Ok, Err, Option, Some, None}
+use Rattle.std.proofs.Common.{◌≡◌, ℕ, ◌-◌, length, arith, true, false, cond, List, [], ◌∷◌, ◌++◌, drop, refl, sym, ap, ◌∙◌, subst, Result, Ok, Err}
 use Rattle.std.specs.Prelude.{reverse}
 use Rattle.std.proofs.lemmas.List.{reverse-append}
-use Rattle.descent.specs.Grammar.{Prod, give, token, call, only}
+use Rattle.descent.specs.Grammar.{give}
 use Rattle.std.proofs.Common.{take as front}
 use Rattle.descent.specs.Reading.{take, head, choose}
 use Rattle.ruby_types.specs.declared.tree.Expr.{Expr}
 use Rattle.ruby_types.specs.declared.tree.Expr.TheVariants as expr
 use Rattle.ruby_grammar.specs.Words.{Word}
 use Rattle.ruby_grammar.specs.Signs.{disjunctions, is_ask, is_colon}
-use Rattle.ruby_grammar.specs.Rules.{ruby, Scope, an_expression, expression, choice_rest, operators}
+use Rattle.ruby_grammar.specs.Rules.{Scope, an_expression, expression, choice_rest, operators}
 use Rattle.ruby_grammar.specs.Expressions.{expression_from, choice_more}
 use Rattle.ruby_grammar.specs.Choices.{ruby_choices, next_is}
 use Rattle.ruby_reader.specs.declared.fault.Fault.{Fault}

@@ -1,7 +1,7 @@
 -- Steps of the reading by descent, as the functions of the reader take them.
-use Rattle.std.proofs.Common.{◌≡◌, Bool, true, false, List, [], ◌∷◌, ◌++◌, drop, refl, sym, ap, ◌∙◌, subst, Result, Ok, Err}
-use Rattle.descent.specs.Grammar.{Prod, give, token, call, mark, only}
-use Rattle.descent.specs.Reading.{Choice, take, too_deep, barred, nothing, head, second, choose, Outcome, done, fault, Why, Unexpected, Deep, Barred, Twice, Reads, by_give, by_word, by_other, by_end, by_mark, by_clash, by_call, by_fault, by_depth, by_bar, by_nothing}
+use Rattle.std.proofs.Common.{◌≡◌, Bool, true, false, List, [], ◌∷◌, drop, refl, sym, ap, ◌∙◌, subst, Result, Ok, Err}
+use Rattle.descent.specs.Grammar.{Prod, give, token, call, only}
+use Rattle.descent.specs.Reading.{take, too_deep, nothing, head, choose, Outcome, done, fault, Why, Unexpected, Deep, Barred, Twice, by_give, by_word, by_other, by_end, by_call, by_fault, by_depth, by_bar, by_nothing}
 use Rattle.ruby_grammar.specs.Words.{Word}
 use Rattle.ruby_grammar.specs.Marks.{Mark}
 use Rattle.ruby_grammar.specs.Rules.{ruby, Sort, Val, Rule}

@@ -1,6 +1,6 @@
 -- How what stands in brackets is read, one level further in.
-use Rattle.std.proofs.Common.{◌≡◌, ℕ, Bool, true, false, List, [], ◌∷◌, drop, sym, subst, Result, Ok, Err}
-use Rattle.descent.specs.Grammar.{Prod, give, token, call, only}
+use Rattle.std.proofs.Common.{◌≡◌, ℕ, Bool, true, false, List, drop, subst, Result, Ok, Err}
+use Rattle.descent.specs.Grammar.{Prod, token, call}
 use Rattle.descent.specs.Reading.{take, head, choose}
 use Rattle.ruby_grammar.specs.Words.{Word}
 use Rattle.ruby_grammar.specs.Rules.{ruby, Sort, Val, Rule, Scope}

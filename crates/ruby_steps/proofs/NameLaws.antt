@@ -1,19 +1,19 @@
 -- How names and arguments in parentheses are read.
-use Rattle.std.proofs.Common.{◌≡◌, ℕ, zero, suc, Bool, true, false, cond, List, [], ◌∷◌, drop, refl, sym, ap, ◌∙◌, subst, Result, Ok, Err, Option, None}
-use Rattle.descent.specs.Grammar.{Prod, give, token, call, only}
-use Rattle.descent.specs.Reading.{take, too_deep, head, choose}
+use Rattle.std.proofs.Common.{◌≡◌, ℕ, suc, Bool, true, false, cond, List, [], ◌∷◌, drop, refl, ap, ◌∙◌, Result, Ok, Err, None}
+use Rattle.descent.specs.Grammar.{give, token, only}
+use Rattle.descent.specs.Reading.{take, head, choose}
 use Rattle.ruby_types.specs.declared.tree.Expr.{Expr}
 use Rattle.ruby_types.specs.declared.tree.Expr.TheVariants as expr
 use Rattle.ruby_grammar.specs.Words.{Word}
 use Rattle.ruby_grammar.specs.Signs.{is_name, has, is_tight_paren, is_close_paren}
-use Rattle.ruby_grammar.specs.Rules.{ruby, Sort, Val, Rule, Scope, an_expression, some_expressions, primary, name_rest, perhaps_arguments, members}
+use Rattle.ruby_grammar.specs.Rules.{Scope, an_expression, some_expressions, primary, name_rest, perhaps_arguments, members}
 use Rattle.ruby_grammar.specs.Values.{name_alone}
 use Rattle.ruby_grammar.specs.Expressions.{at_levels, arguments_from, call_from}
 use Rattle.ruby_grammar.specs.Choices.{ruby_choices, next_is, deepen}
 use Rattle.ruby_reader.specs.Views.{head_sign}
 use Rattle.ruby_reader.specs.declared.fault.Fault.{Fault}
 use Rattle.ruby_reader.specs.declared.fault.Fault.TheVariants as f
-use Rattle.ruby_steps.specs.Gives.{Gives, GivesRule}
+use Rattle.ruby_steps.specs.Gives.{GivesRule}
 use Rattle.ruby_steps.specs.Primaries.{arguments_then, GivesArguments}
 use Rattle.ruby_steps.proofs.Descent.{g_give, g_chosen, g_word, g_deep}
 use Rattle.ruby_steps.proofs.EnclosedLaws.{enclosed_reads, enclosed_breaks, enclosed_lacks_close}

@@ -1,12 +1,12 @@
 -- How operators and unary operators are read.
-use Rattle.std.proofs.Common.{◌≡◌, ℕ, zero, suc, Bool, true, false, cond, List, [], ◌∷◌, ◌++◌, drop, refl, sym, ap, ◌∙◌, subst, Result, Ok, Err, Option, Some, codes}
-use Rattle.descent.specs.Grammar.{Prod, give, token, call, only}
-use Rattle.descent.specs.Reading.{take, too_deep, head, choose}
+use Rattle.std.proofs.Common.{◌≡◌, ℕ, suc, true, false, cond, List, [], ◌∷◌, drop, refl, sym, ap, ◌∙◌, subst, Result, Ok, Err, Some, codes}
+use Rattle.descent.specs.Grammar.{give, call, only}
+use Rattle.descent.specs.Reading.{take, head, choose}
 use Rattle.ruby_types.specs.declared.tree.Expr.{Expr}
 use Rattle.ruby_types.specs.declared.tree.Expr.TheVariants as expr
 use Rattle.ruby_grammar.specs.Words.{Word}
 use Rattle.ruby_grammar.specs.Signs.{Level, units, tighter, is_operator, repeats, is_not, is_minus}
-use Rattle.ruby_grammar.specs.Rules.{ruby, Scope, an_expression, unary, postfix, operators, more_operators}
+use Rattle.ruby_grammar.specs.Rules.{Scope, an_expression, unary, postfix, operators, more_operators}
 use Rattle.ruby_grammar.specs.Values.{operation}
 use Rattle.ruby_grammar.specs.Expressions.{at_levels, not_from, minus_from, operators_from, operator_more, operators_behind}
 use Rattle.ruby_grammar.specs.Choices.{ruby_choices, next_is, deepen}

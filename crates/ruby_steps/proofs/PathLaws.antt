@@ -1,12 +1,12 @@
 -- How paths are read on.
-use Rattle.std.proofs.Common.{◌≡◌, ◌≤◌, ◌<◌, ◌-◌, length, arith, ℕ, Bool, true, false, List, [], ◌∷◌, ◌++◌, drop, refl, sym, ap, ◌∙◌, cond, Option, Some, None, Result, Ok, Err, subst}
+use Rattle.std.proofs.Common.{◌≡◌, ◌≤◌, ◌<◌, ◌-◌, length, arith, ℕ, Bool, true, false, List, [], ◌∷◌, ◌++◌, drop, sym, ap, ◌∙◌, cond, Option, Some, None, Result, Ok, Err, subst}
 use Rattle.std.proofs.lemmas.List.{length-drop}
-use Rattle.descent.specs.Grammar.{Prod, give, token, call, mark, only}
-use Rattle.descent.specs.Reading.{Choice, take, nothing, head, second, choose, Outcome, done, fault, Unexpected, Twice, by_word, by_mark, by_clash, by_give, by_nothing}
+use Rattle.descent.specs.Grammar.{give, token, call, only}
+use Rattle.descent.specs.Reading.{take, nothing, head, choose, Outcome, done, fault, Unexpected, Twice, by_word, by_mark, by_clash, by_give, by_nothing}
 use Rattle.ruby_grammar.specs.Words.{Word}
 use Rattle.ruby_grammar.specs.Marks.{Mark}
 use Rattle.ruby_grammar.specs.Signs.{is_path, is_const}
-use Rattle.ruby_grammar.specs.Rules.{ruby, Val, some_names, a_constant, path_rest, constant}
+use Rattle.ruby_grammar.specs.Rules.{ruby, some_names, a_constant, path_rest, constant}
 use Rattle.ruby_grammar.specs.Expressions.{path_end, path_more, constant_from}
 use Rattle.ruby_grammar.specs.Choices.{ruby_choices, next_is}
 use Rattle.ruby_types.specs.declared.tree.ConstRef.{ConstRef}

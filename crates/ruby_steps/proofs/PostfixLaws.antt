@@ -1,20 +1,20 @@
 -- How calls, indexes and arguments are read behind an expression.
-use Rattle.std.proofs.Common.{◌≡◌, ℕ, zero, suc, Bool, true, false, cond, List, [], ◌∷◌, ◌++◌, drop, refl, sym, ap, ◌∙◌, subst, arith, Result, Ok, Err, Option, Some, codes}
-use Rattle.std.proofs.Common.{◌==◌, ◌&&◌}
+use Rattle.std.proofs.Common.{◌≡◌, ℕ, suc, true, false, cond, List, [], ◌∷◌, drop, refl, sym, ap, ◌∙◌, subst, arith, Result, Ok, Err, Some, codes}
+use Rattle.std.proofs.Common.{◌==◌}
 use Rattle.std.proofs.lemmas.Bool.{and_parts}
 use Rattle.std.proofs.lemmas.Bool.Decides.{nat_tests}
-use Rattle.descent.specs.Grammar.{Prod, give, token, call, only}
-use Rattle.descent.specs.Reading.{take, too_deep, head, choose}
+use Rattle.descent.specs.Grammar.{give}
+use Rattle.descent.specs.Reading.{take, head, choose}
 use Rattle.ruby_types.specs.declared.tree.Expr.{Expr}
 use Rattle.ruby_types.specs.declared.tree.Expr.TheVariants as expr
 use Rattle.ruby_grammar.specs.Words.{Word}
-use Rattle.ruby_grammar.specs.Signs.{is_dot, is_name, is_tight_bracket, is_close_bracket, is_tight_paren, is_close_paren}
-use Rattle.ruby_grammar.specs.Rules.{ruby, Scope, an_expression, postfix, more_postfix, primary, perhaps_arguments, members, expression}
-use Rattle.ruby_grammar.specs.Expressions.{at_levels, postfix_from, method_call, index_from, arguments_from}
+use Rattle.ruby_grammar.specs.Signs.{is_dot, is_name, is_tight_bracket, is_close_bracket}
+use Rattle.ruby_grammar.specs.Rules.{Scope, an_expression, postfix, more_postfix, primary, perhaps_arguments, expression}
+use Rattle.ruby_grammar.specs.Expressions.{at_levels, postfix_from, method_call, index_from}
 use Rattle.ruby_grammar.specs.Choices.{ruby_choices, next_is, deepen}
 use Rattle.ruby_reader.specs.declared.fault.Fault.{Fault}
 use Rattle.ruby_reader.specs.declared.fault.Fault.TheVariants as f
-use Rattle.ruby_steps.specs.Gives.{Gives, GivesRule, GivesMore}
+use Rattle.ruby_steps.specs.Gives.{GivesRule, GivesMore}
 use Rattle.ruby_steps.proofs.Descent.{g_give, g_chosen, g_word, g_skip, g_lacks, g_then, g_fails, g_deep}
 
 -- ---- the primary

@@ -1,24 +1,22 @@
 -- How primaries are chosen by the sign of their first word, and read.
-use Rattle.std.proofs.Common.{◌≡◌, ℕ, zero, suc, Bool, true, false, ◌==◌, ◌||◌, cond, List, [], ◌∷◌, ◌++◌, drop, refl, sym, ap, ◌∙◌, subst, arith, Result, Ok, Err, Option, Some, None, ℤ, ⊎_elim}
-use Rattle.std.proofs.lemmas.Bool.{cases_Bool, cond-true, cond-false}
+use Rattle.std.proofs.Common.{◌≡◌, ℕ, Bool, true, false, ◌==◌, ◌||◌, cond, List, [], ◌∷◌, drop, refl, sym, ap, ◌∙◌, subst, arith, Ok, Err, ⊎_elim}
+use Rattle.std.proofs.lemmas.Bool.{cases_Bool, cond-false}
 use Rattle.std.proofs.lemmas.Bool.Decides.{nat_tests}
-use Rattle.descent.specs.Grammar.{Prod, give, token, call, only}
-use Rattle.descent.specs.Reading.{Choice, take, too_deep, nothing, head, choose}
+use Rattle.descent.specs.Grammar.{give, token, only}
+use Rattle.descent.specs.Reading.{Choice, take, nothing, head, choose}
 use Rattle.ruby_types.specs.declared.tree.Expr.{Expr}
 use Rattle.ruby_types.specs.declared.tree.Expr.TheVariants as expr
-use Rattle.ruby_types.specs.declared.tree.ConstRef.{ConstRef}
 use Rattle.ruby_grammar.specs.Words.{Word}
-use Rattle.ruby_grammar.specs.Signs.{is, sign, is_int, is_sym, is_ivar, is_nil, is_true, is_false, is_self, is_name, is_text_open, is_text_close, is_open_bracket, is_close_bracket, is_open_brace, is_close_brace, is_open_paren, is_close_paren}
-use Rattle.ruby_grammar.specs.Rules.{ruby, Scope, an_expression, primary, constant, members, pairs, expression, name_rest, text_parts}
+use Rattle.ruby_grammar.specs.Signs.{is, is_int, is_sym, is_ivar, is_nil, is_true, is_false, is_self, is_name}
+use Rattle.ruby_grammar.specs.Rules.{ruby, Scope, an_expression, primary, name_rest}
 use Rattle.ruby_grammar.specs.Values.{number_of, behind_sign}
-use Rattle.ruby_grammar.specs.Expressions.{text_from, constant_alone, array_from, hash_from, group_from, at_levels}
+use Rattle.ruby_grammar.specs.Expressions.{text_from, constant_alone, array_from, hash_from, group_from}
 use Rattle.ruby_grammar.specs.Choices.{ruby_choices, next_is, deepen}
 use Rattle.ruby_reader.specs.Views.{head_sign}
-use Rattle.ruby_reader.specs.declared.fault.Fault.{Fault}
 use Rattle.ruby_reader.specs.declared.fault.Fault.TheVariants as f
 use Rattle.ruby_steps.specs.Gives.{Gives, GivesRule}
 use Rattle.ruby_steps.specs.Primaries.{nests}
-use Rattle.ruby_steps.proofs.Descent.{g_give, g_chosen, g_word, g_skip, g_lacks, g_then, g_fails, g_deep, g_nothing}
+use Rattle.ruby_steps.proofs.Descent.{g_give, g_chosen, g_word, g_skip, g_nothing}
 
 abbrev other_at : Scope → ℕ → Choice ruby an_expression
 other_at here n =

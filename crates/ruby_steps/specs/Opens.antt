@@ -1,6 +1,6 @@
 -- Choices that were begun and are read on with a stack: what comes of one value behind them.
 use Rattle.std.specs.Prelude.{◌≡◌, List, [], ◌∷◌, Option, Some, None, Result, Ok, Err, reverse}
-use Rattle.descent.specs.Grammar.{Prod, give, token, call, only}
+use Rattle.descent.specs.Grammar.{Prod, give, token, call}
 use Rattle.ruby_types.specs.declared.tree.Expr.{Expr}
 use Rattle.ruby_types.specs.declared.tree.Expr.TheVariants as expr
 use Rattle.ruby_grammar.specs.Words.{Word}

@@ -9,5 +9,5 @@ mod scope;
 
 pub use choices::{Open, ended, push_open};
 pub use operators::{Level, call, call_with, choice, minus, negated, operation};
-pub use paths::constant;
+pub use paths::{constant, longer, path_rest};
 pub use scope::{LEVELS, Scope, opened};

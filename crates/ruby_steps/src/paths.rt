@@ -9,7 +9,7 @@ use ruby_types::{CPath, ConstRef, Text};
 use std::alloc::{AllocError, Global};
 
 /// The path with one name more.
-fn longer(alloc: Global, path: CPath, name: &[u8]) -> Result<CPath, AllocError>
+pub fn longer(alloc: Global, path: CPath, name: &[u8]) -> Result<CPath, AllocError>
     ensures { IfOk result (λ longer. longer ≡ path ++ name.now ∷ []) }
 {
     let mut path = path;
@@ -18,7 +18,7 @@ fn longer(alloc: Global, path: CPath, name: &[u8]) -> Result<CPath, AllocError>
 }
 
 /// The names that follow, each behind `::`.
-fn path_rest(alloc: Global, first: CPath, reader: &mut Reader<'_>) -> Result<CPath, Fault>
+pub fn path_rest(alloc: Global, first: CPath, reader: &mut Reader<'_>) -> Result<CPath, Fault>
     ensures reads { GivesPathRest first reader.old result reader.new }
     ensures shorter { length reader.new ≤ length reader.old }
 {

@@ -1,8 +1,7 @@
-use Rattle.std.proofs.Common.{◌≡◌, ◌∙◌, ◌∷◌, ◌++◌, [], ap, drop, length, arith}
-use Rattle.std.proofs.lemmas.Grind.{common_steps}
+use Rattle.std.proofs.Common.{◌∙◌, ◌∷◌, ◌++◌, [], ap}
 use Rattle.std.proofs.lemmas.Result.{err_from_is_err_and}
 use Rattle.ruby_steps.specs.Scopes.{scope_view}
-use Rattle.ruby_steps.proofs.ChoiceLaws.{none_begun, none_left, ended_fails, ended_without_memory, other_ends, test_lacks_colon, test_goes_on, test_breaks_behind}
+use Rattle.ruby_steps.proofs.ChoiceLaws.{none_begun, none_left, ended_fails, ended_without_memory, test_lacks_colon, test_goes_on, test_breaks_behind}
 use Rattle.ruby_steps.proofs.choices.ended.Goals as goal
 
 pub returns-in-None-clause-reads : goal.returns-in-None-clause-reads

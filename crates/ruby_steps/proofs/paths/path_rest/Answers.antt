@@ -1,4 +1,3 @@
-use Rattle.std.proofs.Common.{◌≡◌, ◌<◌, length}
 use Rattle.std.proofs.lemmas.Result.{err_from_is_err_and}
 use Rattle.ruby_reader.specs.Views.{word_view}
 use Rattle.ruby_steps.proofs.PathLaws.{path_step, path_ends, path_fails, shorter_rest, smaller_rest}

@@ -1,4 +1,4 @@
-use Rattle.std.proofs.Common.{◌≡◌, ◌≤◌, true, List, Option, length}
+use Rattle.std.proofs.Common.{◌≤◌, true, List, Option, length}
 use Rattle.descent.specs.Grammar.{only}
 use Rattle.descent.specs.Reading.{Outcome}
 use Rattle.ruby_grammar.specs.Marks.{Mark}
