@@ -1,1 +1,3 @@
 pub mod Numbers
+pub mod Utf8
+pub mod Folds

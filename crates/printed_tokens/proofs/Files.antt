@@ -19,6 +19,7 @@ use Rattle.printed_pieces.specs.Definitions.{definition, definition_step, file_p
 use Rattle.printed_pieces.specs.FormedFiles as formed
 use Rattle.printed_pieces.specs.FormedFiles.{Form, Held, FormedDef, FormedReaders, FormedFile, Deed, last_reader, reader_more}
 use Rattle.printed_tokens.specs.Flows.{Flows, tokens_at}
+use Rattle.printed_pieces.proofs.Folds.{placed_definition}
 use Rattle.printed_tokens.proofs.Reading.{flows_lexes}
 use Rattle.printed_tokens.proofs.ReadingWords.{words_of_pieces}
 use Rattle.printed_tokens.proofs.StatementsRuns.{Fresh}
@@ -28,15 +29,12 @@ use Rattle.printed_tokens.proofs.FilesItems.{module_item, class_item, assign_ite
 
 -- ---- by the tree
 
-level : (x : Def) (l : Def-F Def) → out-Def x ≡ l → definition x ≡ definition_step (map-Def Def Placed definition l)
-level x l e = fold_out-Def Placed definition_step x ∙ ap (λ l. definition_step (map-Def Def Placed definition l)) e
-
 print_level : (x : Def) (l : Def-F Def) → out-Def x ≡ l → print.definition x ≡ print.definition_step (map-Def Def print_statements.Placed print.definition l)
 print_level x l e = fold_out-Def print_statements.Placed print.definition_step x ∙ ap (λ l. print.definition_step (map-Def Def print_statements.Placed print.definition l)) e
 
 item_level : (x : Def) (l : Def-F Def) → out-Def x ≡ l → Item (definition_step (map-Def Def Placed definition l)) (print.definition_step (map-Def Def print_statements.Placed print.definition l)) → Item (definition x) (print.definition x)
 item_level x l e t =
-    subst (λ f. Item f (print.definition x)) (sym (level x l e)) (subst (λ g. Item (definition_step (map-Def Def Placed definition l)) g) (sym (print_level x l e)) t)
+    subst (λ f. Item f (print.definition x)) (sym (placed_definition x e)) (subst (λ g. Item (definition_step (map-Def Def Placed definition l)) g) (sym (print_level x l e)) t)
 
 abbrev Says : (f : Form) → Held f → Type 0
 Says formed.definition x = Item (definition x) (print.definition x)

@@ -8,18 +8,16 @@ use Rattle.ruby_print.specs.Statements as print
 use Rattle.printed_pieces.specs.Statements.{Placed, statement, statement_step}
 use Rattle.printed_pieces.specs.FormedStatements as formed
 use Rattle.printed_pieces.specs.FormedStatements.{Form, Held, FormedStmt, simple, whole, several, branches}
+use Rattle.printed_pieces.proofs.Folds.{placed_statement}
 use Rattle.printed_tokens.proofs.StatementsLines.{Item, EachItem}
 use Rattle.printed_tokens.proofs.StatementsSimple.{expression_item, set_item, ivar_item, return_item, return_value_item, raise_item, behind_item}
 use Rattle.printed_tokens.proofs.StatementsArms.{EachArm, block_item}
-
-level : (x : Stmt) (l : Stmt-F Stmt) → out-Stmt x ≡ l → statement x ≡ statement_step (map-Stmt Stmt Placed statement l)
-level x l e = fold_out-Stmt Placed statement_step x ∙ ap (λ l. statement_step (map-Stmt Stmt Placed statement l)) e
 
 print_level : (x : Stmt) (l : Stmt-F Stmt) → out-Stmt x ≡ l → print.statement x ≡ print.statement_step (map-Stmt Stmt print.Placed print.statement l)
 print_level x l e = fold_out-Stmt print.Placed print.statement_step x ∙ ap (λ l. print.statement_step (map-Stmt Stmt print.Placed print.statement l)) e
 
 item_level : (x : Stmt) (l : Stmt-F Stmt) → out-Stmt x ≡ l → Item (statement_step (map-Stmt Stmt Placed statement l)) (print.statement_step (map-Stmt Stmt print.Placed print.statement l)) → Item (statement x) (print.statement x)
-item_level x l e t = subst (λ f. Item f (print.statement x)) (sym (level x l e)) (subst (λ g. Item (statement_step (map-Stmt Stmt Placed statement l)) g) (sym (print_level x l e)) t)
+item_level x l e t = subst (λ f. Item f (print.statement x)) (sym (placed_statement x e)) (subst (λ g. Item (statement_step (map-Stmt Stmt Placed statement l)) g) (sym (print_level x l e)) t)
 
 abbrev Says : (f : Form) → Held f → Type 0
 Says simple x = Item (statement x) (print.statement x)

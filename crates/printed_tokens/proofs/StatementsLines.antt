@@ -19,7 +19,8 @@ use Rattle.printed_pieces.specs.Definitions.{body}
 use Rattle.printed_pieces.specs.Names.{plain_name}
 use Rattle.printed_tokens.specs.Flows.{Flows, Begins, stops, stops_by, IsSpaces}
 use Rattle.printed_tokens.proofs.Reading.{bytes_append}
-use Rattle.printed_tokens.proofs.Utf8.{ascii_then, utf8_ascii, Good}
+use Rattle.printed_pieces.proofs.Utf8.{utf8_cons}
+use Rattle.printed_tokens.proofs.Utf8.{utf8_ascii, Good}
 use Rattle.printed_tokens.proofs.Expressions.{flows_expression}
 use Rattle.printed_tokens.proofs.Bytes.{bytes_expression}
 use Rattle.printed_tokens.proofs.StatementsRuns.{Run, nothing, behind, weaker, no_value, Code, Fresh, Closed, code_any, code_no_join}
@@ -101,7 +102,7 @@ EachItem (x ∷ xs) (y ∷ ys) = Item x y × EachItem xs ys
 
 pub utf8_spaces : (indent : List ℕ) → IsSpaces indent → IsUtf8 indent
 utf8_spaces [] h = IsUtf8-nil
-utf8_spaces (b ∷ indent) h = ascii_then b indent (let e : b ≡ 32 = h.0 in omega arith) (utf8_spaces indent h.1)
+utf8_spaces (b ∷ indent) h = utf8_cons b indent (let e : b ≡ 32 = h.0 in omega arith) (utf8_spaces indent h.1)
 
 pub spaces_deeper : (indent : List ℕ) → IsSpaces indent → IsSpaces (deeper indent)
 spaces_deeper indent h = (refl, (refl, h))
@@ -147,7 +148,7 @@ pub inside_bytes : (xs : List Placed) (ys : List print.Placed) (indent : List �
 inside_bytes xs ys indent h = ap (λ b. 10 ∷ (b ++ indent)) (lines_bytes xs ys (deeper indent) h)
 
 pub utf8_inside : (xs : List Placed) (ys : List print.Placed) (indent : List ℕ) → EachItem xs ys → IsSpaces indent → IsUtf8 (print.inside indent ys)
-utf8_inside xs ys indent h i = ascii_then 10 _ (omega arith) (IsUtf8-append _ indent (utf8_lines xs ys (deeper indent) h (spaces_deeper indent i)) (utf8_spaces indent i))
+utf8_inside xs ys indent h i = utf8_cons 10 _ (omega arith) (IsUtf8-append _ indent (utf8_lines xs ys (deeper indent) h (spaces_deeper indent i)) (utf8_spaces indent i))
 
 -- ---- a body and its `end`
 

@@ -8,18 +8,16 @@ use Rattle.std.proofs.lemmas.Bool.{and_parts, cases_lt, cases_eq}
 use Rattle.std.proofs.lemmas.Bool.Decides.{nat_tests}
 use Rattle.std.proofs.lemmas.Str.{IsUtf8-append, IsUtf8-nil, IsUtf8-encode, encode_ascii, inside_one}
 use Rattle.std.proofs.lemmas.Grind.{flat_map-append}
-use lib.Utf8.{scalar, scalars, encode, encodes, low_scalar}
+use lib.Utf8.{scalar, scalars, encode, encodes}
 use Rattle.ruby_token.specs.Bytes.{Every, is_word, is_lower, is_white, is_line_end, is_suffix}
 use Rattle.ruby_token.proofs.Words.{split_if}
 use Rattle.ruby_types.specs.Paths.{path_text}
 use Rattle.ruby_types.specs.declared.tree.ConstRef.{ConstRef}
 use Rattle.ruby_print.specs.Pieces.{escaped, joined, constant_text, grouped}
+use Rattle.printed_pieces.proofs.Utf8.{utf8_cons}
 use Rattle.printed_pieces.specs.Names.{IsPlainName, plain_name, IsName, unmarked, suffixed, IsConstName, capital, IsSymbolName, of_name, of_constant, EachConst, IsPath}
 
 -- ---- bytes below 128
-
-pub ascii_then : (x : ℕ) (xs : List ℕ) → x < 128 → IsUtf8 xs → IsUtf8 (x ∷ xs)
-ascii_then x xs small u = IsUtf8-append (x ∷ []) xs (subst IsUtf8 (encode_ascii x small) (IsUtf8-encode x (low_scalar x (omega arith)))) u
 
 abbrev pub are_ascii : List ℕ → Bool
 are_ascii [] = true
@@ -27,14 +25,14 @@ are_ascii (x ∷ xs) = nat_lt x 128 && are_ascii xs
 
 pub utf8_ascii : (xs : List ℕ) → are_ascii xs ≡ true → IsUtf8 xs
 utf8_ascii [] e = IsUtf8-nil
-utf8_ascii (x ∷ xs) e = let p = and_parts _ _ e in ascii_then x xs (ltb-true _ _ p.0) (utf8_ascii xs p.1)
+utf8_ascii (x ∷ xs) e = let p = and_parts _ _ e in utf8_cons x xs (ltb-true _ _ p.0) (utf8_ascii xs p.1)
 
 word_below : (b : ℕ) → is_word b ≡ true → b < 128
 word_below b h = grind (arith, nat_tests)
 
 pub utf8_word : (t : List ℕ) → Every is_word t → IsUtf8 t
 utf8_word [] h = IsUtf8-nil
-utf8_word (b ∷ t) h = ascii_then b t (word_below b h.0) (utf8_word t h.1)
+utf8_word (b ∷ t) h = utf8_cons b t (word_below b h.0) (utf8_word t h.1)
 
 -- ---- escaped texts
 
@@ -92,7 +90,7 @@ pub record Good (t : List ℕ) : Type 0 where
   pub first : first_begins t ≡ true
 
 pub good_then : (b : ℕ) (t : List ℕ) → begins_token b ≡ true → b < 128 → IsUtf8 t → Good (b ∷ t)
-good_then b t h l u = record { utf8 = ascii_then b t l u; first = h }
+good_then b t h l u = record { utf8 = utf8_cons b t l u; first = h }
 
 first_append : (t r : List ℕ) → first_begins t ≡ true → first_begins (t ++ r) ≡ true
 first_append [] r h = cc
@@ -147,7 +145,7 @@ good_plain (plain_name {b} {t} l w) = let p = begins_lower b l in good_then b t 
 
 pub good_name : {n : List ℕ} → IsName n → Good n
 good_name (unmarked p) = good_plain p
-good_name (suffixed q p h) = good_append (good_plain p) (ascii_then q [] (suffix_below q h) IsUtf8-nil)
+good_name (suffixed q p h) = good_append (good_plain p) (utf8_cons q [] (suffix_below q h) IsUtf8-nil)
 
 pub good_const : {n : List ℕ} → IsConstName n → Good n
 good_const (capital {b} {t} l w) = let p = begins_upper b l in good_then b t p.0 p.1 (utf8_word t w)
@@ -160,7 +158,7 @@ good_symbol (of_constant h) = good_then 58 _ refl (omega arith) (good_const h).u
 
 more_names : (n : List ℕ) (ns : List (List ℕ)) → IsConstName n → EachConst ns → Good (path_text (n ∷ ns))
 more_names n [] h hs = good_const h
-more_names n (m ∷ ns) h hs = good_append (good_const h) (ascii_then 58 _ (omega arith) (ascii_then 58 _ (omega arith) (more_names m ns hs.0 hs.1).utf8))
+more_names n (m ∷ ns) h hs = good_append (good_const h) (utf8_cons 58 _ (omega arith) (utf8_cons 58 _ (omega arith) (more_names m ns hs.0 hs.1).utf8))
 
 pub good_path : (ns : List (List ℕ)) → IsPath ns → Good (path_text ns)
 good_path [] h = absurd h
@@ -170,7 +168,7 @@ pub good_constant : (c : ConstRef) → IsPath c.path → Good (constant_text c)
 good_constant c h = from_top c.top (good_path c.path h)
   where
     from_top : (b : Bool) → Good (path_text c.path) → Good ((if b then 58 ∷ 58 ∷ [] else []) ++ path_text c.path)
-    from_top true g = good_then 58 _ refl (omega arith) (ascii_then 58 _ (omega arith) g.utf8)
+    from_top true g = good_then 58 _ refl (omega arith) (utf8_cons 58 _ (omega arith) g.utf8)
     from_top false g = g
 
 -- ---- texts with commas between them
@@ -178,7 +176,7 @@ good_constant c h = from_top c.top (good_path c.path h)
 pub utf8_joined : (xs : List (List ℕ)) → AllByRecursion IsUtf8 xs → IsUtf8 (joined xs)
 utf8_joined [] h = IsUtf8-nil
 utf8_joined (x ∷ []) h = h.0
-utf8_joined (x ∷ y ∷ ys) h = IsUtf8-append x _ h.0 (ascii_then 44 _ (omega arith) (ascii_then 32 _ (omega arith) (utf8_joined (y ∷ ys) h.1)))
+utf8_joined (x ∷ y ∷ ys) h = IsUtf8-append x _ h.0 (utf8_cons 44 _ (omega arith) (utf8_cons 32 _ (omega arith) (utf8_joined (y ∷ ys) h.1)))
 
 pub good_grouped : {t : List ℕ} → IsUtf8 t → Good (grouped t)
 good_grouped {t} u = good_then 40 _ refl (omega arith) (IsUtf8-append t _ u (utf8_ascii (41 ∷ []) refl))

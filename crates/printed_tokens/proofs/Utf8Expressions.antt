@@ -15,7 +15,8 @@ use Rattle.ruby_grammar.specs.Rules.{Name}
 use Rattle.printed_pieces.specs.Names.{is_operation}
 use Rattle.printed_pieces.specs.Formed as formed
 use Rattle.printed_pieces.specs.Formed.{Form, Held, Formed, one, some, pairs, parts}
-use Rattle.printed_tokens.proofs.Utf8.{ascii_then, utf8_ascii, utf8_escaped, Good, good_then, good_append, good_decimal, good_plain, good_name, good_symbol, good_constant, utf8_joined, good_grouped}
+use Rattle.printed_pieces.proofs.Utf8.{utf8_cons}
+use Rattle.printed_tokens.proofs.Utf8.{utf8_ascii, utf8_escaped, Good, good_then, good_append, good_decimal, good_plain, good_name, good_symbol, good_constant, utf8_joined, good_grouped}
 
 level : (x : Expr) (l : Expr-F Expr Part) → out-Expr x ≡ l → expression x ≡ expression_step (map-Expr Expr Part Printed (List ℕ) expression print.part l)
 level x l e = fold_out-Expr Printed (List ℕ) expression_step part_step x ∙ ap (λ l. expression_step (map-Expr Expr Part Printed (List ℕ) expression print.part l)) e
@@ -66,10 +67,10 @@ utf8_arguments (f ∷ fs) h = (good_grouped (utf8_members (f ∷ fs) h)).utf8
 
 good_call : (f : Printed) (n : List ℕ) (fs : List Printed) → IsGood f → IsUtf8 n → EachGood fs → IsGood (call_on f n fs)
 good_call f n fs g u h inside =
-    split_if Good (bytes_eq n (codes "[]")) _ _ (λ _. good_append (g true) (ascii_then 91 _ (omega arith) (IsUtf8-append _ _ (utf8_members fs h) (utf8_ascii (93 ∷ []) refl))))
-    (λ _. split_if Good (bytes_eq n (codes "-@")) _ _ (λ _. good_operation (good_then 45 _ refl (omega arith) (ascii_then 32 _ (omega arith) (g true).utf8)) inside)
-    (λ _. split_if Good (print.is_operator n) _ _ (λ _. good_operation (good_append (g true) (ascii_then 32 _ (omega arith) (IsUtf8-append n _ u (ascii_then 32 _ (omega arith) (utf8_members fs h))))) inside)
-    (λ _. good_append (g true) (ascii_then 46 _ (omega arith) (IsUtf8-append n _ u (utf8_arguments fs h))))))
+    split_if Good (bytes_eq n (codes "[]")) _ _ (λ _. good_append (g true) (utf8_cons 91 _ (omega arith) (IsUtf8-append _ _ (utf8_members fs h) (utf8_ascii (93 ∷ []) refl))))
+    (λ _. split_if Good (bytes_eq n (codes "-@")) _ _ (λ _. good_operation (good_then 45 _ refl (omega arith) (utf8_cons 32 _ (omega arith) (g true).utf8)) inside)
+    (λ _. split_if Good (print.is_operator n) _ _ (λ _. good_operation (good_append (g true) (utf8_cons 32 _ (omega arith) (IsUtf8-append n _ u (utf8_cons 32 _ (omega arith) (utf8_members fs h))))) inside)
+    (λ _. good_append (g true) (utf8_cons 46 _ (omega arith) (IsUtf8-append n _ u (utf8_arguments fs h))))))
 
 or_one : (n t : List ℕ) (b : Bool) → IsUtf8 t → (b ≡ true → IsUtf8 n) → (b || bytes_eq n t) ≡ true → IsUtf8 n
 or_one n t true u f h = f refl
@@ -89,7 +90,7 @@ utf8_plain : (text : List ℕ) → IsUtf8 text → IsUtf8 (print.part (part.Plai
 utf8_plain text u = subst IsUtf8 (sym (part_level _ _ (part.outs-Plain text))) (utf8_escaped text u)
 
 utf8_inside : (x : Expr) → IsGood (expression x) → IsUtf8 (print.part (part.Inside x))
-utf8_inside x g = subst IsUtf8 (sym (part_level _ _ (part.outs-Inside x))) (ascii_then 35 _ (omega arith) (ascii_then 123 _ (omega arith) (IsUtf8-append _ _ (g true).utf8 (utf8_ascii (125 ∷ []) refl))))
+utf8_inside x g = subst IsUtf8 (sym (part_level _ _ (part.outs-Inside x))) (utf8_cons 35 _ (omega arith) (utf8_cons 123 _ (omega arith) (IsUtf8-append _ _ (g true).utf8 (utf8_ascii (125 ∷ []) refl))))
 
 -- ---- by the tree
 

@@ -1,25 +1,19 @@
 -- What a piece of a text stands for is UTF-8 and not empty, as the piece is.
 use Rattle.std.proofs.Common.{◌≡◌, ◌≢◌, ◌⊎◌, inl, inr, ℕ, ◌<◌, ◌≤◌, Bool, true, false, ◌&&◌, ◌||◌, List, [], ◌∷◌, ◌++◌, length, get_or, ◌==◌, refl, sym, ap, ◌∙◌, subst, arith, IsUtf8, cond, ltb}
 use Rattle.std.proofs.lemmas.Bool.Decides.{nat_tests}
-use Rattle.std.proofs.lemmas.Str.{IsUtf8-append, IsUtf8-encode, IsUtf8-nil, IsUtf8-from_ascii, IsUtf8-drop, IsUtf8-take, IsCharBoundary-after_ascii, IsCharBoundary-before_ascii, encode_ascii}
-use Rattle.std.proofs.lemmas.Str.Ascii.{IsAscii-nil, IsAscii-cons}
+use Rattle.std.proofs.lemmas.Str.{IsUtf8-append, IsUtf8-encode, IsUtf8-nil, IsUtf8-drop, IsUtf8-take, IsCharBoundary-after_ascii, IsCharBoundary-before_ascii, encode_ascii}
 use Rattle.std.proofs.lemmas.Bool.{eqb-true}
 use lib.Utf8.{scalar, scalars, encode, encodes}
 use Rattle.ruby_token.proofs.Words.{split_if, drop_front}
 use Rattle.ruby_token.proofs.Cuts.{take_front}
 use Rattle.ruby_grammar.proofs.Tools.{and_true}
+use Rattle.printed_pieces.proofs.Utf8.{utf8_byte, utf8_cons}
 use Rattle.ruby_grammar.specs.Values.{escaped, double_text, single_text, text_bytes}
 
 -- ---- cuts beside bytes below 128
 
-pub utf8_byte : (b : ℕ) → b < 128 → IsUtf8 (b ∷ [])
-utf8_byte b h = IsUtf8-from_ascii (b ∷ []) (IsAscii-cons b [] h IsAscii-nil)
-
 pub utf8_behind : (b : ℕ) (bs : List ℕ) → b < 128 → IsUtf8 (b ∷ bs) → IsUtf8 bs
 utf8_behind b bs h u = IsUtf8-drop (b ∷ bs) 1 u (IsCharBoundary-after_ascii (b ∷ bs) 0 u (omega arith) h)
-
-pub utf8_cons : (b : ℕ) (bs : List ℕ) → b < 128 → IsUtf8 bs → IsUtf8 (b ∷ bs)
-utf8_cons b bs h u = IsUtf8-append (b ∷ []) bs (utf8_byte b h) u
 
 at_byte : (t : List ℕ) (b : ℕ) (r : List ℕ) → get_or (t ++ b ∷ r) (length t) 0 ≡ b
 at_byte [] b r = refl

@@ -24,7 +24,7 @@ use Rattle.printed_pieces.specs.Expressions.{constant}
 use Rattle.printed_pieces.specs.Statements.{lines}
 use Rattle.printed_pieces.specs.Definitions.{definition, heading, parameters}
 use Rattle.printed_words.proofs.Building.{Reads, reads, given, takes, says, valued, Under}
-use Rattle.printed_words.proofs.Folds.{pieces_of_definition}
+use Rattle.printed_pieces.proofs.Folds.{pieces_of_definition}
 use Rattle.printed_words.proofs.Lifting.{Ready}
 use Rattle.printed_words.proofs.Primaries.{is_free, path_reads, constant_reads}
 use Rattle.printed_words.proofs.Branches.{Several, variable_passes}

@@ -16,7 +16,7 @@ use Rattle.printed_pieces.specs.Names.{IsPlainName, plain_name, IsVariableName}
 use Rattle.printed_pieces.specs.Expressions.{alone}
 use Rattle.printed_pieces.specs.Statements.{Placed, statement, lines, inside, arms, otherwise, perhaps}
 use Rattle.printed_words.proofs.Building.{Sent, Reads, reads, given, takes, then_, ends, says, over_rule, valued, Under}
-use Rattle.printed_words.proofs.Folds.{pieces_of_statement}
+use Rattle.printed_pieces.proofs.Folds.{pieces_of_statement}
 use Rattle.printed_words.proofs.Lifting.{Ready}
 
 -- ---- simple statements

@@ -13,7 +13,7 @@ use Rattle.printed_pieces.specs.Pieces.{Piece, name, dot, open_paren, close_pare
 use Rattle.printed_pieces.specs.Names.{IsName, unmarked, suffixed, plain_name}
 use Rattle.printed_pieces.specs.Expressions.{Laid, expression, members, arguments, call_on}
 use Rattle.printed_words.proofs.Building.{Reads, reads, given, takes, then_, says, over, over_rule, Under}
-use Rattle.printed_words.proofs.Folds.{pieces_of}
+use Rattle.printed_pieces.proofs.Folds.{pieces_of}
 use Rattle.printed_words.proofs.Lifting.{Ready, inner, primary_ready, open_ready}
 use Rattle.printed_words.proofs.Primaries.{is_free}
 use Rattle.printed_words.proofs.Lists.{Members}

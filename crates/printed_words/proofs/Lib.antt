@@ -1,6 +1,5 @@
 pub mod Building
 pub mod Texts
-pub mod Folds
 pub mod Lifting
 pub mod Primaries
 pub mod Lists

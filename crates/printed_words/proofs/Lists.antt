@@ -18,7 +18,7 @@ use Rattle.printed_pieces.specs.Expressions.{Laid, expression, members, more_mem
 use Rattle.printed_pieces.specs.Expressions as pieces
 use Rattle.printed_words.proofs.Building.{Reads, reads, given, takes, then_, ends, says, over, over_rule, valued, Under}
 use Rattle.printed_words.proofs.Texts.{text_back}
-use Rattle.printed_words.proofs.Folds.{pieces_of, pieces_of_part}
+use Rattle.printed_pieces.proofs.Folds.{pieces_of, pieces_of_part}
 use Rattle.printed_words.proofs.Lifting.{Ready, inner, primary_ready}
 
 -- ---- members

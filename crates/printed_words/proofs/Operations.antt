@@ -15,7 +15,7 @@ use Rattle.printed_pieces.specs.Pieces.{Piece, mark, word_at, space}
 use Rattle.printed_pieces.specs.Names.{is_operation}
 use Rattle.printed_pieces.specs.Expressions.{expression, enclosed, call_on}
 use Rattle.printed_words.proofs.Building.{Reads, reads, given, takes, then_, ends, says, over_rule, valued_rule, Eventually, Under, so, both, deeper}
-use Rattle.printed_words.proofs.Folds.{pieces_of}
+use Rattle.printed_pieces.proofs.Folds.{pieces_of}
 use Rattle.printed_words.proofs.Lifting.{Ready, inner, operand, unary_operand, operates, of_unary, loosened, whole, enclosed_ready}
 
 -- ---- one operand

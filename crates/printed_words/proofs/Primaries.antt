@@ -17,7 +17,7 @@ use Rattle.printed_pieces.specs.Names.{IsInRange, IsPath}
 use Rattle.printed_pieces.specs.Formed.{IsConstant}
 use Rattle.printed_words.proofs.Building.{Reads, reads, given, takes, ends, says, valued}
 use Rattle.printed_pieces.proofs.Numbers.{number_back}
-use Rattle.printed_words.proofs.Folds.{pieces_of}
+use Rattle.printed_pieces.proofs.Folds.{pieces_of}
 use Rattle.printed_words.proofs.Lifting.{Ready, primary_ready}
 
 pub nil_ready : (names : List Name) (l : ℕ) → Ready names expr.Nil l

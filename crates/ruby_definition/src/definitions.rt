@@ -10,6 +10,7 @@ ghost use Rattle.ruby_definition.specs.Places.{body_view};
 use crate::headers;
 use crate::members::other;
 use crate::place::Place;
+use case_table::cases;
 use ruby_marks::Marks;
 use ruby_reader::signs::LINE;
 use ruby_reader::{Fault, Reader};
@@ -43,15 +44,17 @@ fn definition(place: Place<'_>, marks: &mut Marks, reader: &mut Reader<'_>) -> R
     ensures reads { GivesMarkedRule (rules.definition (body_view place.entry)) marks.old reader.old result marks.new reader.new }
     ensures shorter { length reader.new ≤ length reader.old }
 {
-    if reader.sees(MODULE) {
-        let levels = opened(place.levels)?;
-        module(place, levels, marks, reader)
-    } else if reader.sees(CLASS) {
-        let levels = opened(place.levels)?;
-        class(place, levels, marks, reader)
-    } else {
+    cases!(reader.code();
+        MODULE => {
+            let levels = opened(place.levels)?;
+            module(place, levels, marks, reader)
+        },
+        CLASS => {
+            let levels = opened(place.levels)?;
+            class(place, levels, marks, reader)
+        };
         other(place, marks, reader)
-    }
+    )
 }
 
 /// The definitions in a module or class, and its `end`.

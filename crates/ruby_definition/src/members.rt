@@ -13,6 +13,7 @@ ghost use Rattle.ruby_definition.specs.Places.{body_view};
 use crate::counting::count;
 use crate::methods::method;
 use crate::place::Place;
+use case_table::cases;
 use lists::Copying;
 use ruby_marks::{Act, Marks};
 use ruby_reader::signs::{ASSIGN, COMMA, CONST, SYM};
@@ -97,16 +98,15 @@ fn member(place: Place<'_>, marks: &mut Marks, reader: &mut Reader<'_>) -> Resul
     ensures reads { GivesMarkedRule (rules.definition (body_view place.entry)) marks.old reader.old result marks.new reader.new }
     ensures shorter { length reader.new ≤ length reader.old }
 {
-    if reader.sees(INCLUDE) {
-        included(place, marks, reader)
-    } else if reader.sees(ATTR_READER) {
-        readers(place, marks, reader)
-    } else if reader.sees(DEF) {
-        let levels = opened(place.levels)?;
-        method(place, levels, marks, reader)
-    } else {
+    cases!(reader.code();
+        INCLUDE => included(place, marks, reader),
+        ATTR_READER => readers(place, marks, reader),
+        DEF => {
+            let levels = opened(place.levels)?;
+            method(place, levels, marks, reader)
+        };
         Err(Fault::Unexpected)
-    }
+    )
 }
 
 /// A definition that is no module and no class.

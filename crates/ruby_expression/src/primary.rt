@@ -1,6 +1,6 @@
 //! What operators work on: values, names, calls, brackets.
 
-ghost use Rattle.std.specs.Prelude.{◌≡◌, ◌≤◌, ◌<◌, [], length, true, false, None, OnOk};
+ghost use Rattle.std.specs.Prelude.{◌≡◌, ◌≢◌, ◌≤◌, ◌<◌, [], drop, length, true, false, None, Ok, OnOk};
 ghost use Rattle.descent.specs.Reading.{head};
 ghost use Rattle.ruby_grammar.specs.Choices.{next_is};
 ghost use Rattle.ruby_grammar.specs.Signs.{is_dot, is_tight_bracket, is_tight_paren};
@@ -12,6 +12,7 @@ ghost use Rattle.ruby_steps.specs.Scopes.{scope_view};
 
 use crate::arguments::{members, pairs};
 use crate::operators::expression;
+use case_table::cases;
 use ruby_reader::signs::{
     CLOSE_BRACE, CLOSE_BRACKET, CLOSE_PAREN, CONST, DOT, INSIDE_CLOSE, INSIDE_OPEN, INT, IVAR,
     NAME, OPEN_BRACE, OPEN_BRACKET, OPEN_PAREN, PATH, SYM, TEXT_CLOSE, TEXT_OPEN, TEXT_PIECE,
@@ -129,24 +130,36 @@ fn literal<'a>(scope: Scope<'_, 'a>, reader: &mut Reader<'a>) -> Result<Expr, Fa
             let word = reader.taken(IVAR)?;
             Ok(Expr::Ivar(Text::from_bytes(scope.alloc, behind_sign(word.text))?))
         }
-        NIL => {
-            reader.skip();
-            Ok(Expr::Nil)
-        }
-        TRUE => {
-            reader.skip();
-            Ok(Expr::True)
-        }
-        FALSE => {
-            reader.skip();
-            Ok(Expr::False)
-        }
-        SELF => {
-            reader.skip();
-            Ok(Expr::SelfRef)
-        }
-        _ => Err(Fault::Unexpected),
+        _ => reserved(reader),
     }
+}
+
+/// Passes over the word at hand, which stands for this value.
+fn passed(value: Expr, reader: &mut Reader<'_>) -> Result<Expr, Fault>
+    ensures value { result ≡ Ok value }
+    ensures passed { reader.new ≡ drop 1 reader.old }
+{
+    reader.skip();
+    Ok(value)
+}
+
+/// A reserved word that is an expression by itself.
+fn reserved(reader: &mut Reader<'_>) -> Result<Expr, Fault>
+    requires nests { nests (head_sign reader.old) ≡ false }
+    requires no_number { head_sign reader.old ≢ 55 }
+    requires no_symbol { head_sign reader.old ≢ 54 }
+    requires no_variable { head_sign reader.old ≢ 52 }
+    ensures reads { (here : rules.Scope) → GivesRule (rules.primary here) reader.old result reader.new }
+    ensures shorter { length reader.new ≤ length reader.old }
+    ensures taken { OnOk result (length reader.new < length reader.old) }
+{
+    cases!(reader.code();
+        NIL => passed(Expr::Nil, reader),
+        TRUE => passed(Expr::True, reader),
+        FALSE => passed(Expr::False, reader),
+        SELF => passed(Expr::SelfRef, reader);
+        Err(Fault::Unexpected)
+    )
 }
 
 fn call_on_self(name: Text, args: Exprs) -> Expr

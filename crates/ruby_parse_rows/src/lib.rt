@@ -20,6 +20,8 @@ mod lines;
 #[cfg(test)]
 mod operators;
 #[cfg(test)]
+mod printed;
+#[cfg(test)]
 mod rows;
 #[cfg(test)]
 mod shown;

@@ -2,4 +2,5 @@ mod Magnitude
 mod Codes
 mod Suffix
 pub mod KeyLaws
+pub mod CodeLaws
 mod Fitting

@@ -1,8 +1,6 @@
 -- The value of digits grows.
 use Rattle.std.proofs.Common.{◌≡◌, ℕ, ◌-◌, ◌*◌, ◌+◌, ◌≤◌, List, [], ◌∷◌, arith, ◌==◌}
-use Rattle.std.proofs.lemmas.Bool.{cases_Bool}
-use Rattle.std.proofs.Common.{⊎_elim, Bool, true, false, cond, subst, sym}
-use Rattle.std.proofs.lemmas.Bool.{cond-true, cond-false}
+use Rattle.std.proofs.Common.{Bool, true, false, cond}
 use Rattle.ruby_token.specs.Number.{magnitude_from}
 
 by_test : (P : ℕ → Type 0) (b : Bool) (x y : ℕ) → P x → P y → P (cond b x y)

@@ -1,5 +1,5 @@
 -- The last byte of a name.
-use Rattle.std.proofs.Common.{◌≡◌, ℕ, zero, suc, ◌-◌, ◌≤◌, List, [], ◌∷◌, get_or, length, refl, sym, ◌∙◌, ap, subst, Bool, true, false, ◌==◌, ◌||◌, ⊎_elim, arith}
+use Rattle.std.proofs.Common.{◌≡◌, ℕ, zero, suc, ◌-◌, ◌≤◌, List, [], ◌∷◌, get_or, length, refl, sym, ◌∙◌, ap, subst, true, ◌==◌, ◌||◌, ⊎_elim, arith}
 use Rattle.std.proofs.lemmas.Bool.{cases_Bool}
 use Rattle.std.proofs.lemmas.Bool.Decides.{nat_tests}
 use Rattle.ruby_token.specs.Bytes.{is_suffix}

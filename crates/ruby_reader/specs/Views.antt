@@ -1,5 +1,5 @@
 -- The words of the grammar, as the reader has them.
-use Rattle.std.specs.Prelude.{ℕ, Bool, ◌==◌, ◌&&◌, ◌||◌, nat_le, List, [], ◌∷◌}
+use Rattle.std.specs.Prelude.{ℕ, Bool, ◌==◌, ◌&&◌, ◌||◌, nat_le, if◌then◌else◌, List, [], ◌∷◌, Option, Some, None}
 use Rattle.ruby_reader.specs.declared.word.Word.{Word as Held}
 use Rattle.ruby_grammar.specs.Words.{Word}
 use Rattle.ruby_grammar.specs.Signs.{sign}
@@ -12,6 +12,10 @@ word_view w = record { kind = w.kind; text = w.text.now; tight = w.tight; at = w
 abbrev pub head_sign : List Word → ℕ
 head_sign [] = 98
 head_sign (w ∷ ws) = sign w
+
+-- the code of a reserved or a left-out word, by its sign
+abbrev pub code_view : ℕ → Option ℕ
+code_view n = if nat_le 1 n && nat_le n 47 then Some n else None
 
 -- left-out words and operators, and what expressions and statements begin with, by their signs
 abbrev pub left_out_sign : ℕ → Bool

@@ -10,11 +10,11 @@ ghost use Rattle.ruby_grammar.specs.Values.{number_of};
 ghost use Rattle.ruby_grammar.specs.Signs.{is, is_assign, is_int};
 ghost use Rattle.ruby_grammar.specs.Choices.{next_is};
 ghost use Rattle.descent.specs.Reading.{head, second};
-ghost use Rattle.ruby_reader.specs.Views.{word_view, head_sign};
+ghost use Rattle.ruby_reader.specs.Views.{word_view, head_sign, code_view};
 
 use crate::fault::Fault;
 use crate::numbers::value;
-use crate::signs::{ASSIGN, INT, NOTHING, sign_of};
+use crate::signs::{ASSIGN, INT, NOTHING, code_of, sign_of};
 use crate::word::Word;
 use case_table::CaseTable;
 use ruby_token::Token;
@@ -119,6 +119,13 @@ impl<'a> Reader<'a> {
         ensures { result ≡ head_sign self.now }
     {
         self.sign
+    }
+
+    /// The code in `ruby_words` of the word at hand, where it is a reserved or a left-out one.
+    pub fn code(&self) -> Option<u16>
+        ensures { result ≡ code_view (head_sign self.now) }
+    {
+        code_of(self.sign)
     }
 
     /// Whether the word at hand has this sign.

@@ -3,13 +3,17 @@
 ghost use Rattle.std.specs.Prelude.{◌≡◌};
 ghost use Rattle.ruby_words.specs.Words.{word_rows};
 ghost use Rattle.ruby_grammar.specs.Signs as spec;
-ghost use Rattle.ruby_reader.specs.Views.{left_out_sign, expression_sign, statement_sign};
+ghost use Rattle.ruby_reader.specs.Views.{code_view, left_out_sign, expression_sign, statement_sign};
 
 use case_table::CaseTable;
 use ruby_token::{Op, TokenKind};
+use ruby_words::{FALSE, IF, LAST_RESERVED, MODULE, NIL, RAISE, RETURN, SELF, TRUE, UNLESS};
 
 /// A name that is no reserved and no left-out word. Those have the codes of `ruby_words`, from 1 to 47.
 pub const NAME: u16 = 0;
+
+/// The last code of `ruby_words`. Those of the left-out words end with it.
+const LAST_WORD: u16 = 47;
 
 pub const LINE: u16 = 50;
 
@@ -45,6 +49,10 @@ pub const DIFFERS: u16 = 74;
 
 pub const LESS: u16 = 75;
 
+pub const AT_MOST: u16 = 76;
+
+pub const MORE: u16 = 77;
+
 pub const AT_LEAST: u16 = 78;
 
 pub const PLUS: u16 = 79;
@@ -52,6 +60,8 @@ pub const PLUS: u16 = 79;
 pub const MINUS: u16 = 80;
 
 pub const TIMES: u16 = 81;
+
+pub const DIVIDE: u16 = 82;
 
 pub const MODULO: u16 = 83;
 
@@ -81,42 +91,47 @@ pub const OPEN_BRACE: u16 = 95;
 
 pub const CLOSE_BRACE: u16 = 96;
 
+pub const BAR: u16 = 97;
+
 /// The end of the file.
 pub const NOTHING: u16 = 98;
+
+/// Each operator that the profile leaves out.
+pub const LEFT_OUT: u16 = 99;
 
 fn op_sign(op: Op) -> u16
     ensures { result ≡ spec.op_sign op }
 {
     match op {
-        Op::OrElse => 70,
-        Op::AndAlso => 71,
-        Op::Not => 72,
-        Op::Same => 73,
-        Op::Differs => 74,
-        Op::Less => 75,
-        Op::AtMost => 76,
-        Op::More => 77,
-        Op::AtLeast => 78,
-        Op::Plus => 79,
-        Op::Minus => 80,
-        Op::Times => 81,
-        Op::Divide => 82,
-        Op::Modulo => 83,
-        Op::Ask => 84,
-        Op::Colon => 85,
-        Op::Path => 86,
-        Op::Dot => 87,
-        Op::Comma => 88,
-        Op::Assign => 89,
-        Op::Arrow => 90,
-        Op::OpenParen => 91,
-        Op::CloseParen => 92,
-        Op::OpenBracket => 93,
-        Op::CloseBracket => 94,
-        Op::OpenBrace => 95,
-        Op::CloseBrace => 96,
-        Op::Bar => 97,
-        _ => 99,
+        Op::OrElse => OR_ELSE,
+        Op::AndAlso => AND_ALSO,
+        Op::Not => NOT,
+        Op::Same => SAME,
+        Op::Differs => DIFFERS,
+        Op::Less => LESS,
+        Op::AtMost => AT_MOST,
+        Op::More => MORE,
+        Op::AtLeast => AT_LEAST,
+        Op::Plus => PLUS,
+        Op::Minus => MINUS,
+        Op::Times => TIMES,
+        Op::Divide => DIVIDE,
+        Op::Modulo => MODULO,
+        Op::Ask => ASK,
+        Op::Colon => COLON,
+        Op::Path => PATH,
+        Op::Dot => DOT,
+        Op::Comma => COMMA,
+        Op::Assign => ASSIGN,
+        Op::Arrow => ARROW,
+        Op::OpenParen => OPEN_PAREN,
+        Op::CloseParen => CLOSE_PAREN,
+        Op::OpenBracket => OPEN_BRACKET,
+        Op::CloseBracket => CLOSE_BRACKET,
+        Op::OpenBrace => OPEN_BRACE,
+        Op::CloseBrace => CLOSE_BRACE,
+        Op::Bar => BAR,
+        _ => LEFT_OUT,
     }
 }
 
@@ -126,7 +141,7 @@ fn name_sign(words: &CaseTable<47>, text: &[u8]) -> u16
 {
     match words.find(text) {
         Some(code) => code,
-        None => 0,
+        None => NAME,
     }
 }
 
@@ -136,19 +151,30 @@ pub fn sign_of(words: &CaseTable<47>, kind: TokenKind, text: &[u8]) -> u16
     ensures { result ≡ spec.kind_sign kind text.now }
 {
     match kind {
-        TokenKind::Line => 50,
+        TokenKind::Line => LINE,
         TokenKind::Name => name_sign(words, text),
-        TokenKind::Const => 51,
-        TokenKind::Ivar => 52,
-        TokenKind::Label => 53,
-        TokenKind::Sym => 54,
-        TokenKind::Int => 55,
-        TokenKind::TextOpen => 56,
-        TokenKind::TextPiece => 57,
-        TokenKind::InsideOpen => 58,
-        TokenKind::InsideClose => 59,
-        TokenKind::TextClose => 60,
+        TokenKind::Const => CONST,
+        TokenKind::Ivar => IVAR,
+        TokenKind::Label => LABEL,
+        TokenKind::Sym => SYM,
+        TokenKind::Int => INT,
+        TokenKind::TextOpen => TEXT_OPEN,
+        TokenKind::TextPiece => TEXT_PIECE,
+        TokenKind::InsideOpen => INSIDE_OPEN,
+        TokenKind::InsideClose => INSIDE_CLOSE,
+        TokenKind::TextClose => TEXT_CLOSE,
         TokenKind::Op(op) => op_sign(op),
+    }
+}
+
+/// The code in `ruby_words` of a word of this sign, where it is a reserved or a left-out one.
+pub fn code_of(sign: u16) -> Option<u16>
+    ensures { result ≡ code_view sign }
+{
+    if (MODULE..=LAST_WORD).contains(&sign) {
+        Some(sign)
+    } else {
+        None
     }
 }
 
@@ -156,7 +182,7 @@ pub fn sign_of(words: &CaseTable<47>, kind: TokenKind, text: &[u8]) -> u16
 pub fn is_left_out(sign: u16) -> bool
     ensures { result ≡ left_out_sign sign }
 {
-    (18..=47).contains(&sign) || sign == 99
+    (LAST_RESERVED + 1..=LAST_WORD).contains(&sign) || sign == LEFT_OUT
 }
 
 /// Whether an expression may begin with a word of this sign.
@@ -165,7 +191,21 @@ pub fn starts_expression(sign: u16) -> bool
 {
     matches!(
         sign,
-        0 | 11 | 12 | 13 | 14 | 51 | 52 | 54 | 55 | 56 | 72 | 80 | 86 | 91 | 93 | 95
+        NAME | SELF
+            | NIL
+            | TRUE
+            | FALSE
+            | CONST
+            | IVAR
+            | SYM
+            | INT
+            | TEXT_OPEN
+            | NOT
+            | MINUS
+            | PATH
+            | OPEN_PAREN
+            | OPEN_BRACKET
+            | OPEN_BRACE
     )
 }
 
@@ -173,5 +213,5 @@ pub fn starts_expression(sign: u16) -> bool
 pub fn starts_statement(sign: u16) -> bool
     ensures { result ≡ statement_sign sign }
 {
-    matches!(sign, 5 | 8 | 10 | 15) || starts_expression(sign)
+    matches!(sign, IF | UNLESS | RETURN | RAISE) || starts_expression(sign)
 }

@@ -1,18 +1,17 @@
 -- How the arms of a block `if` or `unless` are read.
-use Rattle.std.proofs.Common.{◌≡◌, ℕ, Bool, true, false, ◌&&◌, not, cond, List, [], ◌∷◌, ◌++◌, drop, refl, sym, ap, ◌∙◌, subst, Result, Ok, Err}
+use Rattle.std.proofs.Common.{◌≡◌, Bool, true, false, ◌&&◌, not, List, [], ◌∷◌, ◌++◌, drop, refl, ◌∙◌, subst, Result, Ok, Err}
 use Rattle.std.specs.Prelude.{IfErr, OnOk, OnErr}
 use Rattle.std.proofs.lemmas.Bool.{cond-true, cond-false}
 use Rattle.descent.specs.Grammar.{Prod, give, token, call, only}
-use Rattle.descent.specs.Reading.{Choice, take, nothing, head, choose}
+use Rattle.descent.specs.Reading.{take, nothing, head, choose}
 use Rattle.ruby_types.specs.declared.tree.Expr.{Expr}
-use Rattle.ruby_types.specs.declared.tree.Expr.TheVariants as expr
 use Rattle.ruby_types.specs.declared.tree.Stmt.{Stmt}
 use Rattle.ruby_types.specs.declared.tree.Stmt.TheVariants as stmt
 use Rattle.ruby_grammar.specs.Words.{Word}
-use Rattle.ruby_grammar.specs.Signs.{is, is_end, is_else, is_elsif, is_then, is_line}
+use Rattle.ruby_grammar.specs.Signs.{is_end, is_else, is_elsif, is_then, is_line}
 use Rattle.ruby_grammar.specs.Rules.{ruby, Name, Known, Block, Around, Scope, a_statement, a_block, no_value, arms_rest, statements, expression, then_or_line, perhaps_line}
-use Rattle.ruby_grammar.specs.Statements.{known, block, scope, around, behind, arm_from, arms_end, else_more, elsif_more}
-use Rattle.ruby_grammar.specs.Choices.{ruby_choices, next_is, pick_branch, pick_elsif}
+use Rattle.ruby_grammar.specs.Statements.{known, block, scope, behind, arm_from, arms_end, else_more, elsif_more}
+use Rattle.ruby_grammar.specs.Choices.{ruby_choices, next_is}
 use Rattle.ruby_reader.specs.declared.fault.Fault.{Fault}
 use Rattle.ruby_reader.specs.declared.fault.Fault.TheVariants as f
 use Rattle.ruby_steps.specs.Gives.{Gives, GivesRule}

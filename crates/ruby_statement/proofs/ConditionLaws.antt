@@ -1,19 +1,19 @@
 -- How a condition behind a statement is read.
-use Rattle.std.proofs.Common.{◌≡◌, ℕ, Bool, true, false, cond, List, [], ◌∷◌, drop, refl, sym, ap, ◌∙◌, subst, Result, Ok, Err, Option, Some, None}
+use Rattle.std.proofs.Common.{◌≡◌, ℕ, true, false, List, drop, sym, ◌∙◌, subst, Ok, Err, Some, None}
 use Rattle.std.proofs.lemmas.Bool.{cond-true, cond-false}
-use Rattle.descent.specs.Grammar.{Prod, give, token, call, only}
-use Rattle.descent.specs.Reading.{take, head, choose}
+use Rattle.descent.specs.Grammar.{give, call, only}
+use Rattle.descent.specs.Reading.{head}
 use Rattle.ruby_types.specs.declared.tree.Expr.{Expr}
 use Rattle.ruby_types.specs.declared.tree.Expr.TheVariants as expr
 use Rattle.ruby_types.specs.declared.tree.Stmt.{Stmt}
 use Rattle.ruby_grammar.specs.Words.{Word}
 use Rattle.ruby_grammar.specs.Signs.{is_if, is_unless}
-use Rattle.ruby_grammar.specs.Rules.{ruby, Name, Known, a_statement, condition_behind, expression}
+use Rattle.ruby_grammar.specs.Rules.{Name, Known, a_statement, condition_behind, expression}
 use Rattle.ruby_grammar.specs.Statements.{known, scope, if_behind, unless_behind}
-use Rattle.ruby_grammar.specs.Choices.{ruby_choices, next_is}
+use Rattle.ruby_grammar.specs.Choices.{next_is}
 use Rattle.ruby_reader.specs.declared.fault.Fault.{Fault}
 use Rattle.ruby_reader.specs.declared.fault.Fault.TheVariants as f
-use Rattle.ruby_steps.specs.Gives.{Gives, GivesRule}
+use Rattle.ruby_steps.specs.Gives.{GivesRule}
 use Rattle.ruby_steps.proofs.Descent.{g_give}
 use Rattle.ruby_statement.specs.Answers.{conditioned, GivesCondition}
 use Rattle.ruby_statement.proofs.Steps.{skips, value, value_fails, picked, unmade}

@@ -1,17 +1,16 @@
 -- How simple statements are read.
-use Rattle.std.proofs.Common.{◌≡◌, ℕ, Bool, true, false, ◌&&◌, cond, List, [], ◌∷◌, drop, refl, sym, ap, ◌∙◌, subst, Result, Ok, Err, Option, Some, None}
+use Rattle.std.proofs.Common.{◌≡◌, Bool, true, false, ◌&&◌, cond, List, [], ◌∷◌, drop, refl, sym, ap, ◌∙◌, subst, Result, Ok, Err, Option, Some, None}
 use Rattle.std.proofs.lemmas.Bool.{cond-true, cond-false}
-use Rattle.descent.specs.Grammar.{Prod, give, token, call, only}
-use Rattle.descent.specs.Reading.{Choice, take, barred, head, second, choose, fault, Barred, by_bar}
+use Rattle.descent.specs.Grammar.{Prod, give, token, call}
+use Rattle.descent.specs.Reading.{take, barred, head, second, choose, by_bar}
 use Rattle.ruby_types.specs.declared.tree.Expr.{Expr}
-use Rattle.ruby_types.specs.declared.tree.Stmt.{Stmt}
 use Rattle.ruby_types.specs.declared.tree.Stmt.TheVariants as stmt
 use Rattle.ruby_grammar.specs.Words.{Word}
 use Rattle.ruby_grammar.specs.Signs.{is_variable, is_ivar, is_assign, is_return, is_raise}
 use Rattle.ruby_grammar.specs.Rules.{ruby, Name, Known, Around, Scope, a_statement, perhaps_an_expression, simple_statement, perhaps_expression, expression}
 use Rattle.ruby_grammar.specs.Values.{behind_sign}
 use Rattle.ruby_grammar.specs.Statements.{known, scope, scope_of, returning, raising, setting, setting_ivar, evaluating}
-use Rattle.ruby_grammar.specs.Choices.{ruby_choices, next_is, starts_expression, pick_set_ivar}
+use Rattle.ruby_grammar.specs.Choices.{ruby_choices, next_is, pick_set_ivar}
 use Rattle.ruby_reader.specs.Views.{head_sign, expression_sign}
 use Rattle.ruby_reader.specs.declared.fault.Fault.{Fault}
 use Rattle.ruby_reader.specs.declared.fault.Fault.TheVariants as f

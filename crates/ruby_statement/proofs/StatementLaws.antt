@@ -1,12 +1,12 @@
 -- How statements are read.
-use Rattle.std.proofs.Common.{◌≡◌, ℕ, zero, suc, Bool, true, false, ◌||◌, not, cond, List, [], ◌∷◌, ◌++◌, drop, refl, sym, ap, ◌∙◌, subst, Result, Ok, Err, ⊎_elim}
+use Rattle.std.proofs.Common.{◌≡◌, suc, Bool, true, false, ◌||◌, cond, List, [], ◌∷◌, ◌++◌, drop, refl, sym, ap, ◌∙◌, subst, Result, Ok, Err, ⊎_elim}
 use Rattle.std.proofs.lemmas.Bool.{cond-true, cond-false, cases_Bool}
-use Rattle.descent.specs.Grammar.{Prod, give, token, call, only}
-use Rattle.descent.specs.Reading.{take, too_deep, head, choose}
+use Rattle.descent.specs.Grammar.{give, token, call, only}
+use Rattle.descent.specs.Reading.{take, head, choose}
 use Rattle.ruby_types.specs.declared.tree.Stmt.{Stmt}
 use Rattle.ruby_grammar.specs.Words.{Word}
 use Rattle.ruby_grammar.specs.Signs.{is_if, is_unless, is_line}
-use Rattle.ruby_grammar.specs.Rules.{ruby, Name, Known, Block, Around, a_statement, a_block, statements, more_statements, statement, simple_statement, condition_behind}
+use Rattle.ruby_grammar.specs.Rules.{Name, Known, Block, Around, a_statement, a_block, statements, more_statements, statement, simple_statement, condition_behind}
 use Rattle.ruby_grammar.specs.Statements.{known, block, behind, statement_then, arm_from, if_from, unless_from}
 use Rattle.ruby_grammar.specs.Choices.{ruby_choices, next_is, deepen, starts_statement}
 use Rattle.ruby_reader.specs.Views.{head_sign, statement_sign}

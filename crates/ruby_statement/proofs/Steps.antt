@@ -1,9 +1,9 @@
 -- Steps of the reading of one statement.
-use Rattle.std.proofs.Common.{◌≡◌, ℕ, Bool, true, false, ◌==◌, ◌≤◌, ◌<◌, ◌-◌, cond, List, [], ◌∷◌, drop, length, refl, sym, ap, ◌∙◌, subst, arith, Result, Ok, Err}
+use Rattle.std.proofs.Common.{◌≡◌, ℕ, Bool, true, false, ◌==◌, ◌≤◌, ◌<◌, ◌-◌, List, [], ◌∷◌, drop, length, refl, sym, ap, ◌∙◌, subst, arith, Result, Ok, Err}
 use Rattle.std.proofs.lemmas.Bool.Decides.{nat_tests}
 use Rattle.std.proofs.lemmas.List.{length-drop}
 use Rattle.ruby_types.specs.declared.tree.Expr.{Expr}
-use Rattle.descent.specs.Grammar.{Prod, give, token, call, only}
+use Rattle.descent.specs.Grammar.{Prod, give, token, call}
 use Rattle.descent.specs.Reading.{take, head, choose}
 use Rattle.ruby_grammar.specs.Words.{Word}
 use Rattle.ruby_grammar.specs.Signs.{is, sign}

@@ -1,5 +1,5 @@
 -- The arms of a block `if` or `unless`, as the code reads them.
-use Rattle.std.specs.Prelude.{Bool, true, false, not, List, [], ◌∷◌, Result, Ok, Err}
+use Rattle.std.specs.Prelude.{Bool, true, false, not, List, [], Result, Ok, Err}
 use Rattle.ruby_types.specs.declared.tree.Expr.{Expr}
 use Rattle.ruby_types.specs.declared.tree.Expr.TheVariants as expr
 use Rattle.ruby_types.specs.declared.tree.Stmt.{Stmt}

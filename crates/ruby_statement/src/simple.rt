@@ -12,6 +12,7 @@ ghost use Rattle.ruby_statement.specs.Answers.{known_as};
 ghost use Rattle.ruby_statement.specs.Places.{around_view};
 
 use crate::body::Body;
+use case_table::cases;
 use ruby_reader::signs::{ASSIGN, IVAR, NAME};
 use ruby_reader::{Fault, Locals, Reader, Word, behind_sign, ends_in_suffix};
 use ruby_types::{Stmt, Text};
@@ -138,11 +139,9 @@ pub fn simple<'a>(
     ensures reads { GivesRule (rules.simple_statement (around_view body locals.old)) reader.old (known_as locals.new result) reader.new }
     ensures shorter { length reader.new ≤ length reader.old }
 {
-    if reader.sees(RETURN) {
-        returned(body, locals, reader)
-    } else if reader.sees(RAISE) {
-        raised(body, locals, reader)
-    } else {
+    cases!(reader.code();
+        RETURN => returned(body, locals, reader),
+        RAISE => raised(body, locals, reader);
         set_or_evaluated(body, locals, reader)
-    }
+    )
 }

@@ -7,7 +7,10 @@ ghost use Rattle.ruby_reader.specs.Views.{word_view};
 ghost use Rattle.ruby_steps.specs.Levels.{level_view, operator_sign};
 
 use ruby_reader::Word;
-use ruby_reader::signs::{AND_ALSO, DIFFERS, OR_ELSE};
+use ruby_reader::signs::{
+    AND_ALSO, AT_LEAST, AT_MOST, DIFFERS, DIVIDE, LESS, MINUS, MODULO, MORE, OR_ELSE, PLUS, SAME,
+    TIMES,
+};
 use ruby_types::{Expr, Exprs, Text};
 use sqlite_items::Boxed;
 use std::alloc::{AllocError, Global};
@@ -45,12 +48,14 @@ impl Level {
         ensures { result ≡ operator_sign (level_view self) sign }
     {
         match self {
-            Level::Disjunctions => sign == 70,
-            Level::Conjunctions => sign == 71,
-            Level::Equalities => sign == 73 || sign == 74,
-            Level::Comparisons => sign == 75 || sign == 76 || sign == 77 || sign == 78,
-            Level::Sums => sign == 79 || sign == 80,
-            Level::Products => sign == 81 || sign == 82 || sign == 83,
+            Level::Disjunctions => sign == OR_ELSE,
+            Level::Conjunctions => sign == AND_ALSO,
+            Level::Equalities => sign == SAME || sign == DIFFERS,
+            Level::Comparisons => {
+                sign == LESS || sign == AT_MOST || sign == MORE || sign == AT_LEAST
+            }
+            Level::Sums => sign == PLUS || sign == MINUS,
+            Level::Products => sign == TIMES || sign == DIVIDE || sign == MODULO,
             Level::Units => false,
         }
     }

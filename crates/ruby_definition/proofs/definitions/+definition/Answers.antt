@@ -1,5 +1,6 @@
 use Rattle.std.proofs.Common.{◌∙◌, sym, ◌<◌, length, arith}
 use Rattle.std.proofs.lemmas.Result.{err_from_is_err_and}
+use Rattle.ruby_reader.proofs.CodeLaws.{sees_code}
 use Rattle.ruby_grammar.specs.Signs.{is_line}
 use Rattle.ruby_grammar.specs.Rules.{some_defs}
 use Rattle.ruby_definition.specs.Places.{body_view}
@@ -28,20 +29,20 @@ module-returns-clause-reads t c =
 pub definition-returns-in_err-levels-clause-reads : goal.definition-returns-in_err-levels-clause-reads
 definition-returns-in_err-levels-clause-reads t c =
     let p = err_from_is_err_and c.from_residual.result c.from_residual.ensures.1 in
-    rw (p.1, p.2) (module_deep c.args.place.levels c.args.place.path.now c.args.marks.now c.args.marks.now c.args.reader.now _ (cc) c.in_err-levels.ensures.none c.in_err-levels.ensures.fault)
+    rw (p.1, p.2) (module_deep c.args.place.levels c.args.place.path.now c.args.marks.now c.args.marks.now c.args.reader.now _ (sees_code c.args.reader.now 1 (sym c.code.ensures ∙ (cc))) c.in_err-levels.ensures.none c.in_err-levels.ensures.fault)
 
 pub definition-returns-in_err-levels-2-clause-reads : goal.definition-returns-in_err-levels-2-clause-reads
 definition-returns-in_err-levels-2-clause-reads t c =
     let p = err_from_is_err_and c.from_residual-in_err-levels-2.result c.from_residual-in_err-levels-2.ensures.1 in
-    rw (p.1, p.2) (class_deep c.args.place.levels c.args.place.path.now c.args.marks.now c.args.marks.now c.args.reader.now _ (cc) c.in_err-levels-2.ensures.none c.in_err-levels-2.ensures.fault)
+    rw (p.1, p.2) (class_deep c.args.place.levels c.args.place.path.now c.args.marks.now c.args.marks.now c.args.reader.now _ (sees_code c.args.reader.now 2 (sym c.code.ensures ∙ (cc))) c.in_err-levels-2.ensures.none c.in_err-levels-2.ensures.fault)
 
 pub definition-returns-in_ok-levels-clause-reads : goal.definition-returns-in_ok-levels-clause-reads
 definition-returns-in_ok-levels-clause-reads t c =
-    module_chosen c.args.place.levels c.args.place.path.now c.args.marks.now c.module.new.marks c.args.reader.now c.in_ok-levels.levels c.module.result c.module.new.reader c.in_ok-levels.ensures.left (cc) c.module.ensures.reads
+    module_chosen c.args.place.levels c.args.place.path.now c.args.marks.now c.module.new.marks c.args.reader.now c.in_ok-levels.levels c.module.result c.module.new.reader c.in_ok-levels.ensures.left (sees_code c.args.reader.now 1 (sym c.code.ensures ∙ (cc))) c.module.ensures.reads
 
 pub definition-returns-in_ok-levels-2-clause-reads : goal.definition-returns-in_ok-levels-2-clause-reads
 definition-returns-in_ok-levels-2-clause-reads t c =
-    class_chosen c.args.place.levels c.args.place.path.now c.args.marks.now c.class.new.marks c.args.reader.now c.in_ok-levels-2.levels c.class.result c.class.new.reader c.in_ok-levels-2.ensures.left (cc) c.class.ensures.reads
+    class_chosen c.args.place.levels c.args.place.path.now c.args.marks.now c.class.new.marks c.args.reader.now c.in_ok-levels-2.levels c.class.result c.class.new.reader c.in_ok-levels-2.ensures.left (sees_code c.args.reader.now 2 (sym c.code.ensures ∙ (cc))) c.class.ensures.reads
 
 pub definitions-returns-in_err-definition-clause-reads : goal.definitions-returns-in_err-definition-clause-reads
 definitions-returns-in_err-definition-clause-reads t c =

@@ -1,4 +1,3 @@
-use Rattle.std.proofs.Common.{◌≡◌}
 use Rattle.ruby_statement.proofs.BlockLaws.{line_skipped, no_line}
 use Rattle.ruby_statement.proofs.blocks.perhaps_line.Goals as goal
 

@@ -1,4 +1,3 @@
-use Rattle.std.proofs.Common.{◌≡◌, Ok, Err}
 use Rattle.std.proofs.lemmas.Result.{err_from_is_err_and}
 use Rattle.ruby_grammar.specs.Statements.{scope}
 use Rattle.ruby_statement.proofs.BlockLaws.{test_reads, test_breaks, test_lacks_line}

@@ -1,4 +1,4 @@
-use Rattle.std.proofs.Common.{◌≡◌, Ok}
+use Rattle.std.proofs.Common.{Ok}
 use Rattle.ruby_statement.proofs.BlockLaws.{then_reads, line_taken}
 use Rattle.ruby_statement.proofs.blocks.then_or_line.Goals as goal
 

@@ -1,4 +1,3 @@
-use Rattle.std.proofs.Common.{◌≡◌}
 use Rattle.std.proofs.lemmas.Result.{err_from_is_err_and}
 use Rattle.ruby_statement.proofs.ConditionLaws.{if_reads, if_breaks, unless_reads, unless_breaks, no_condition}
 use Rattle.ruby_statement.proofs.conditions.condition.Goals as goal

@@ -1,6 +1,4 @@
-use Rattle.std.proofs.Common.{◌≡◌, Ok, Err}
 use Rattle.std.proofs.lemmas.Result.{err_from_is_err_and}
-use Rattle.ruby_reader.specs.Views.{word_view}
 use Rattle.ruby_statement.specs.Places.{around_view}
 use Rattle.ruby_statement.proofs.SimpleLaws.{evaluation_reads, evaluation_breaks}
 use Rattle.ruby_statement.proofs.simple.evaluated.Goals as goal

@@ -1,6 +1,4 @@
-use Rattle.std.proofs.Common.{◌≡◌, Ok, Err}
 use Rattle.std.proofs.lemmas.Result.{err_from_is_err_and}
-use Rattle.ruby_reader.specs.Views.{word_view}
 use Rattle.ruby_statement.specs.Places.{around_view}
 use Rattle.ruby_statement.proofs.SimpleLaws.{raise_reads, raise_breaks, no_raise}
 use Rattle.ruby_statement.proofs.simple.raised.Goals as goal

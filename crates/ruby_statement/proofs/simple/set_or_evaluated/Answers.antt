@@ -1,6 +1,3 @@
-use Rattle.std.proofs.Common.{◌≡◌, Ok, Err}
-use Rattle.std.proofs.lemmas.Result.{err_from_is_err_and}
-use Rattle.ruby_reader.specs.Views.{word_view}
 use Rattle.ruby_statement.specs.Places.{around_view}
 use Rattle.ruby_statement.specs.Answers.{known_as}
 use Rattle.ruby_statement.proofs.SimpleLaws.{simple_set, simple_evaluation, simple_set_ivar, simple_barred}

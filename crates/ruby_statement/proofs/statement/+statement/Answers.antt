@@ -1,11 +1,11 @@
-use Rattle.std.proofs.Common.{◌≡◌, true, false, ◌∙◌, ◌<◌, ◌≤◌, [], List, Result, Ok, Err, refl, sym, subst, length, arith}
+use Rattle.std.proofs.Common.{true, false, ◌∙◌, ◌<◌, ◌≤◌, [], Ok, Err, refl, sym, subst, length, arith}
 use Rattle.std.proofs.lemmas.Grind.{common_steps}
 use Rattle.std.proofs.lemmas.Result.{err_from_is_err_and}
-use Rattle.ruby_grammar.specs.Signs.{is_line, is_elsif}
+use Rattle.ruby_grammar.specs.Signs.{is_line}
 use Rattle.ruby_grammar.specs.Rules as rules
 use Rattle.ruby_grammar.specs.Statements.{known, block}
 use Rattle.ruby_types.specs.declared.tree.Stmt.TheVariants as stmt
-use Rattle.ruby_steps.specs.Gives.{Gives, GivesRule}
+use Rattle.ruby_steps.specs.Gives.{GivesRule}
 use Rattle.ruby_statement.specs.Answers.{known_as}
 use Rattle.ruby_statement.specs.Places.{around_view}
 use Rattle.ruby_statement.proofs.Steps.{skip_falls, drop_shorter}

@@ -1,4 +1,4 @@
-use Rattle.std.proofs.Common.{◌≡◌, ◌≤◌, ◌+◌, ◌*◌, [], List, Result, length}
+use Rattle.std.proofs.Common.{◌≤◌, ◌+◌, ◌*◌, [], List, Result, length}
 use Rattle.ruby_grammar.specs.Words.{Word}
 use Rattle.ruby_grammar.specs.Rules.{Known, Block}
 use Rattle.ruby_grammar.specs.Rules as rules

@@ -1,4 +1,4 @@
-use Rattle.std.proofs.Common.{◌≡◌, ◌∙◌, ◌∷◌, ap, sym}
+use Rattle.std.proofs.Common.{◌∙◌, ◌∷◌, ap}
 use Rattle.ruby_reader.specs.Names.{latest_first}
 use Rattle.ruby_reader.proofs.KeyLaws.{insert_known, latest_more}
 use Rattle.ruby_reader.proofs.locals.Locals.insert.Goals as goal

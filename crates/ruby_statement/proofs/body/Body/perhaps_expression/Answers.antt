@@ -1,4 +1,3 @@
-use Rattle.std.proofs.Common.{◌≡◌}
 use Rattle.std.proofs.lemmas.Result.{err_from_is_err_and}
 use Rattle.ruby_grammar.specs.Statements.{scope}
 use Rattle.ruby_statement.proofs.SimpleLaws.{some_expression, some_expression_fails, no_expression}

@@ -1,5 +1,5 @@
-use Rattle.ruby_reprint.proofs.Back.{result_read_back}
-use Rattle.ruby_reprint.proofs.print.Goals as goal
+use Rattle.ruby_parse.proofs.Back.{result_read_back}
+use Rattle.ruby_parse.proofs.printing.print.Goals as goal
 
 pub returns-clause-read_back : goal.returns-clause-read_back
 returns-clause-read_back c = result_read_back c.print.result c.args.tree.now c.print.ensures.printed
