@@ -1,13 +1,12 @@
 //! Long files and long chains: they are read in one pass, and their trees are dropped without ending the program.
 
-use ruby_parse::{SyntaxFault, SyntaxKind, parse, print};
-use ruby_types::FileTree;
+use ruby_parse::{SyntaxFault, SyntaxKind, parse};
 use std::alloc::{AllocError, Global};
 use std::test::Fail;
 use std::thread;
 
 /// A text between so many beginnings and as many endings.
-fn repeated(
+pub fn repeated(
     alloc: Global,
     start: &str,
     beginning: &str,
@@ -105,80 +104,6 @@ fn choices_in_choices_are_read_and_dropped(rt: HostRuntime) -> Result<(), Fail> 
     let deep = thread::Builder::new().stack_size(1 << 30);
     let read = deep.spawn(&rt, move || choices(alloc))?.join(&rt);
     assert_eq!(rt; read, [true; 2]);
-    Ok(())
-}
-
-/// A chain of a million links: its start, its link and its end, and the printed text's length, beginning and end.
-type Chain = (
-    &'static str,
-    &'static str,
-    &'static str,
-    usize,
-    &'static str,
-    &'static str,
-);
-
-static CHAINS: [Chain; 6] = [
-    ("X = ", "1 + ", "1", 6_000_004, "X = (((", "1) + 1) + 1\n"),
-    (
-        "X = ",
-        "1 && ",
-        "1",
-        7_000_004,
-        "X = (((",
-        "1) && 1) && 1\n",
-    ),
-    (
-        "X = ",
-        "1 || ",
-        "1",
-        7_000_004,
-        "X = (((",
-        "1) || 1) || 1\n",
-    ),
-    ("X = A", ".b", "", 2_000_006, "X = A.b.b", ".b.b\n"),
-    ("X = A", "[0]", "", 3_000_006, "X = A[0][0]", "[0][0]\n"),
-    (
-        "X = ",
-        "nil ? 1 : ",
-        "2",
-        12_000_004,
-        "X = nil ? 1 : (nil ? 1 : (",
-        "))))\n",
-    ),
-];
-
-/// The tree of a chain, where its printed text looks so.
-fn printed_chain(alloc: Global, chain: Chain) -> Option<FileTree> {
-    let (start, link, end, length, front, back) = chain;
-    let text = repeated(alloc, start, link, 1_000_000, end, "").ok()?;
-    if text.len() >= 100_000_000 {
-        return None;
-    }
-    let tree = parse(alloc, text.as_bytes()).ok()?;
-    let printed = print(alloc, &tree).ok()?;
-    let bytes = printed.as_bytes();
-    let fits = bytes.starts_with(front.as_bytes()) && bytes.ends_with(back.as_bytes());
-    if bytes.len() == length && fits {
-        Some(tree)
-    } else {
-        None
-    }
-}
-
-/// The stack is too small for a call a link; only the drop of the tree has a large one.
-#[test]
-fn chains_of_a_million_links_are_read_and_printed_by_loops(rt: HostRuntime) -> Result<(), Fail> {
-    let alloc = rt.alloc();
-    for chain in CHAINS {
-        let small = thread::Builder::new().stack_size(8 << 20);
-        let tree = small
-            .spawn(&rt, move || printed_chain(alloc, chain))?
-            .join(&rt);
-        assert!(rt; tree.is_some(), "the chain of {}", chain.1);
-        let deep = thread::Builder::new().stack_size(1 << 30);
-        deep.spawn(&rt, move || drop(tree))?.join(&rt);
-    }
     Ok(())
 }
 
