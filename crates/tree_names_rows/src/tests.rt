@@ -53,143 +53,151 @@ fn assert_spelled(rt: &impl Abort, alloc: Global, case: &Case) -> Result<(), Fai
     Ok(())
 }
 
-#[test]
-fn a_base_is_camelized(rt: HostRuntime) -> Result<(), Fail> {
-    let alloc = rt.alloc();
-    let config = config_of(
-        &rt,
-        alloc,
-        b"inflect api_status APIStatus\ninflect x Y\ninflect x X2\n",
-    )?;
-    let cases = [
-        (b"html_parser".as_slice(), b"HtmlParser".as_slice()),
-        (b"point_3d_value".as_slice(), b"Point3dValue".as_slice()),
-        (b"api_status".as_slice(), b"APIStatus".as_slice()),
-        (b"x".as_slice(), b"X2".as_slice()),
-        (b"a__b".as_slice(), b"AB".as_slice()),
-        (b"_a".as_slice(), b"A".as_slice()),
-        (b"HTML_parser".as_slice(), b"HtmlParser".as_slice()),
-        (b"foo-bar".as_slice(), b"Foo-bar".as_slice()),
-        (b"".as_slice(), b"".as_slice()),
-    ];
-    for (base, wanted) in cases {
-        assert_eq!(rt; camelize(alloc, base, &config)?.as_bytes(), wanted);
+fn each_is_spelled(rt: &impl Abort, alloc: Global, cases: &[Case]) -> Result<(), Fail> {
+    for case in cases {
+        assert_spelled(rt, alloc, case)?;
     }
     Ok(())
 }
+
+/// A base name, and its constant.
+static BASES: [(&[u8], &[u8]); 9] = [
+    (b"html_parser", b"HtmlParser"),
+    (b"point_3d_value", b"Point3dValue"),
+    (b"api_status", b"APIStatus"),
+    (b"x", b"X2"),
+    (b"a__b", b"AB"),
+    (b"_a", b"A"),
+    (b"HTML_parser", b"HtmlParser"),
+    (b"foo-bar", b"Foo-bar"),
+    (b"", b""),
+];
+
+fn each_is_camelized(
+    rt: &impl Abort,
+    alloc: Global,
+    config: &Config,
+    rows: &[(&[u8], &[u8])],
+) -> Result<(), Fail> {
+    for (base, wanted) in rows {
+        assert_eq!(rt; camelize(alloc, base, config)?.as_bytes(), *wanted);
+    }
+    Ok(())
+}
+
+#[test]
+fn a_base_is_camelized(rt: HostRuntime) -> Result<(), Fail> {
+    let text = b"inflect api_status APIStatus\ninflect x Y\ninflect x X2\n";
+    let config = config_of(&rt, rt.alloc(), text)?;
+    each_is_camelized(&rt, rt.alloc(), &config, &BASES)
+}
+
+static SPELLED: [Case; 13] = [
+    (b"", b"app/lib", b"html_parser.rb", b"HtmlParser"),
+    (b"", b"app/lib", b"point_3d_value.rb", b"Point3dValue"),
+    (
+        b"inflect html_parser HTMLParser\n",
+        b"app/lib",
+        b"html_parser.rb",
+        b"HTMLParser",
+    ),
+    (
+        b"inflect api API\n",
+        b"app/lib",
+        b"api/v1/posts.rb",
+        b"API::V1::Posts",
+    ),
+    (b"", b"app/models", b"admin/user.rb", b"Admin::User"),
+    (b"", b"app/models", b"a__b.rb", b"AB"),
+    (b"", b"app/models", b"_a.rb", b"A"),
+    (b"", b"app/models", b"3d.rb", b"!"),
+    (b"", b"app/models", b"foo-bar.rb", b"!"),
+    (b"", b"app/models", b"foo-bar/a.rb", b"!"),
+    (b"", b"app/models", b"a.rb/b.rb", b"!"),
+    (b"", b"app/models", b"a.rb.rb", b"!"),
+    (b"", b"app/models", b"a.rb/b", b"-"),
+];
 
 #[test]
 fn a_path_spells_its_directories_and_its_base(rt: HostRuntime) -> Result<(), Fail> {
-    let cases: [Case; 13] = [
-        (b"", b"app/lib", b"html_parser.rb", b"HtmlParser"),
-        (b"", b"app/lib", b"point_3d_value.rb", b"Point3dValue"),
-        (
-            b"inflect html_parser HTMLParser\n",
-            b"app/lib",
-            b"html_parser.rb",
-            b"HTMLParser",
-        ),
-        (
-            b"inflect api API\n",
-            b"app/lib",
-            b"api/v1/posts.rb",
-            b"API::V1::Posts",
-        ),
-        (b"", b"app/models", b"admin/user.rb", b"Admin::User"),
-        (b"", b"app/models", b"a__b.rb", b"AB"),
-        (b"", b"app/models", b"_a.rb", b"A"),
-        (b"", b"app/models", b"3d.rb", b"!"),
-        (b"", b"app/models", b"foo-bar.rb", b"!"),
-        (b"", b"app/models", b"foo-bar/a.rb", b"!"),
-        (b"", b"app/models", b"a.rb/b.rb", b"!"),
-        (b"", b"app/models", b"a.rb.rb", b"!"),
-        (b"", b"app/models", b"a.rb/b", b"-"),
-    ];
-    for case in &cases {
-        assert_spelled(&rt, rt.alloc(), case)?;
-    }
-    Ok(())
+    each_is_spelled(&rt, rt.alloc(), &SPELLED)
 }
+
+static HIDDEN: [Case; 13] = [
+    (b"", b"app/models", b"booking/notes/.x.rb", b"-"),
+    (b"", b"app/models", b".git/x.rb", b"-"),
+    (b"", b"app/models", b"foo-bar/.x.rb", b"-"),
+    (b"", b"app/.x", b"a.rb", b"A"),
+    (b"ignore app/models/old\n", b"app/models", b"old/a.rb", b"-"),
+    (
+        b"ignore app/models/old\n",
+        b"app/models",
+        b"older/a.rb",
+        b"Older::A",
+    ),
+    (
+        b"ignore app/models/foo-bar\n",
+        b"app/models",
+        b"foo-bar/a.rb",
+        b"-",
+    ),
+    (
+        b"ignore app/models/x\nignore app/models/a/*/c\n",
+        b"app/models",
+        b"a/b/c/d.rb",
+        b"-",
+    ),
+    (
+        b"ignore app/models/*_old.rb\n",
+        b"app/models",
+        b"a_old.rb",
+        b"-",
+    ),
+    (
+        b"ignore app/models/*_old.rb\n",
+        b"app/models",
+        b"x/a_old.rb",
+        b"X::AOld",
+    ),
+    (b"ignore app/models\n", b"app/models", b"a.rb", b"A"),
+    (b"ignore app/*\n", b"app/models/concerns", b"geo.rb", b"Geo"),
+    (b"", b"app/models", b"README.md", b"-"),
+];
 
 #[test]
 fn hidden_and_ignored_files_spell_nothing(rt: HostRuntime) -> Result<(), Fail> {
-    let cases: [Case; 13] = [
-        (b"", b"app/models", b"booking/notes/.x.rb", b"-"),
-        (b"", b"app/models", b".git/x.rb", b"-"),
-        (b"", b"app/models", b"foo-bar/.x.rb", b"-"),
-        (b"", b"app/.x", b"a.rb", b"A"),
-        (b"ignore app/models/old\n", b"app/models", b"old/a.rb", b"-"),
-        (
-            b"ignore app/models/old\n",
-            b"app/models",
-            b"older/a.rb",
-            b"Older::A",
-        ),
-        (
-            b"ignore app/models/foo-bar\n",
-            b"app/models",
-            b"foo-bar/a.rb",
-            b"-",
-        ),
-        (
-            b"ignore app/models/x\nignore app/models/a/*/c\n",
-            b"app/models",
-            b"a/b/c/d.rb",
-            b"-",
-        ),
-        (
-            b"ignore app/models/*_old.rb\n",
-            b"app/models",
-            b"a_old.rb",
-            b"-",
-        ),
-        (
-            b"ignore app/models/*_old.rb\n",
-            b"app/models",
-            b"x/a_old.rb",
-            b"X::AOld",
-        ),
-        (b"ignore app/models\n", b"app/models", b"a.rb", b"A"),
-        (b"ignore app/*\n", b"app/models/concerns", b"geo.rb", b"Geo"),
-        (b"", b"app/models", b"README.md", b"-"),
-    ];
-    for case in &cases {
-        assert_spelled(&rt, rt.alloc(), case)?;
-    }
-    Ok(())
+    each_is_spelled(&rt, rt.alloc(), &HIDDEN)
 }
+
+static COLLAPSED: [Case; 5] = [
+    (
+        b"collapse app/models/booking/actions\n",
+        b"app/models",
+        b"booking/actions/create.rb",
+        b"Booking::Create",
+    ),
+    (
+        b"collapse app/models/foo-bar\n",
+        b"app/models",
+        b"foo-bar/a.rb",
+        b"A",
+    ),
+    (
+        b"collapse app/models/foo-bar\n",
+        b"app/models",
+        b"x/foo-bar/a.rb",
+        b"!",
+    ),
+    (b"collapse app/*/*\n", b"app/models", b"a/b/c.rb", b"B::C"),
+    (
+        b"collapse app/models/*\n",
+        b"app/models",
+        b"user.rb",
+        b"User",
+    ),
+];
 
 #[test]
 fn a_collapsed_directory_adds_no_name(rt: HostRuntime) -> Result<(), Fail> {
-    let cases: [Case; 5] = [
-        (
-            b"collapse app/models/booking/actions\n",
-            b"app/models",
-            b"booking/actions/create.rb",
-            b"Booking::Create",
-        ),
-        (
-            b"collapse app/models/foo-bar\n",
-            b"app/models",
-            b"foo-bar/a.rb",
-            b"A",
-        ),
-        (
-            b"collapse app/models/foo-bar\n",
-            b"app/models",
-            b"x/foo-bar/a.rb",
-            b"!",
-        ),
-        (b"collapse app/*/*\n", b"app/models", b"a/b/c.rb", b"B::C"),
-        (
-            b"collapse app/models/*\n",
-            b"app/models",
-            b"user.rb",
-            b"User",
-        ),
-    ];
-    for case in &cases {
-        assert_spelled(&rt, rt.alloc(), case)?;
-    }
-    Ok(())
+    each_is_spelled(&rt, rt.alloc(), &COLLAPSED)
 }

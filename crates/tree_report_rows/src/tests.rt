@@ -3,6 +3,7 @@ use lists::Text;
 use outside::{FileBytes, FileEntry, FilePath, Stamp};
 use ruby_types::CPath;
 use std::alloc::{AllocError, Global};
+use std::process::Abort;
 use std::test::Fail;
 use tree_report::{
     ExceededLimit, Limit, ListedSite, Place, Refusal, exceeded_limit, is_within_limits,
@@ -87,51 +88,69 @@ fn the_first_path_of_more_than_255_bytes_is_too_long(rt: HostRuntime) -> Result<
     Ok(())
 }
 
+/// A limit, the number that exceeds it, and the line.
+static LIMITS: [(Limit, u64, &[u8]); 3] = [
+    (Limit::Files, 4_097, b"limit: files 4097\n"),
+    (
+        Limit::Bytes,
+        u64::MAX,
+        b"limit: bytes 18446744073709551615\n",
+    ),
+    (Limit::Path, 256, b"limit: path 256\n"),
+];
+
+fn each_limit_is_told(
+    rt: &impl Abort,
+    alloc: Global,
+    rows: &[(Limit, u64, &[u8])],
+) -> Result<(), Fail> {
+    for (limit, number, wanted) in rows {
+        let refusal = Refusal::Limit(ExceededLimit {
+            limit: *limit,
+            number: *number,
+        });
+        assert_eq!(rt; refusal.line(alloc)?.as_slice(), *wanted);
+    }
+    Ok(())
+}
+
+/// A line's number, its fault, and the line that tells it.
+static FAULTS: [(u32, ConfigKind, &[u8]); 5] = [
+    (
+        2,
+        ConfigKind::UnknownWord,
+        b"config/loader.conf:2: unknown word\n",
+    ),
+    (
+        10,
+        ConfigKind::WordCount,
+        b"config/loader.conf:10: word count\n",
+    ),
+    (1, ConfigKind::BadPath, b"config/loader.conf:1: bad path\n"),
+    (3, ConfigKind::BadName, b"config/loader.conf:3: bad name\n"),
+    (4, ConfigKind::NotUtf8, b"config/loader.conf:4: not UTF-8\n"),
+];
+
+fn each_fault_is_told(
+    rt: &impl Abort,
+    alloc: Global,
+    rows: &[(u32, ConfigKind, &[u8])],
+) -> Result<(), Fail> {
+    for (line, kind, wanted) in rows {
+        let refusal = Refusal::Configuration(ConfigFault {
+            line: *line,
+            kind: *kind,
+        });
+        assert_eq!(rt; refusal.line(alloc)?.as_slice(), *wanted);
+    }
+    Ok(())
+}
+
 #[test]
 fn refusals_are_told_in_one_line(rt: HostRuntime) -> Result<(), Fail> {
     let alloc = rt.alloc();
-    for (limit, number, want) in [
-        (Limit::Files, 4_097, b"limit: files 4097\n".as_slice()),
-        (
-            Limit::Bytes,
-            u64::MAX,
-            b"limit: bytes 18446744073709551615\n".as_slice(),
-        ),
-        (Limit::Path, 256, b"limit: path 256\n".as_slice()),
-    ] {
-        let refusal = Refusal::Limit(ExceededLimit { limit, number });
-        assert_eq!(rt; refusal.line(alloc)?.as_slice(), want);
-    }
-    for (line, kind, want) in [
-        (
-            2,
-            ConfigKind::UnknownWord,
-            b"config/loader.conf:2: unknown word\n".as_slice(),
-        ),
-        (
-            10,
-            ConfigKind::WordCount,
-            b"config/loader.conf:10: word count\n".as_slice(),
-        ),
-        (
-            1,
-            ConfigKind::BadPath,
-            b"config/loader.conf:1: bad path\n".as_slice(),
-        ),
-        (
-            3,
-            ConfigKind::BadName,
-            b"config/loader.conf:3: bad name\n".as_slice(),
-        ),
-        (
-            4,
-            ConfigKind::NotUtf8,
-            b"config/loader.conf:4: not UTF-8\n".as_slice(),
-        ),
-    ] {
-        let refusal = Refusal::Configuration(ConfigFault { line, kind });
-        assert_eq!(rt; refusal.line(alloc)?.as_slice(), want);
-    }
+    each_limit_is_told(&rt, alloc, &LIMITS)?;
+    each_fault_is_told(&rt, alloc, &FAULTS)?;
     let bad = Refusal::BadName(Text::from_bytes(alloc, b"app/lib/foo-bar.rb")?);
     assert_eq!(rt;
         bad.text(alloc)?.as_slice(),

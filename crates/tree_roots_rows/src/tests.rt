@@ -2,6 +2,7 @@ use app_config::{RootLine, RootLines};
 use lists::{Listed, Text};
 use outside::{FileEntry, Stamp};
 use std::alloc::{AllocError, Global};
+use std::process::Abort;
 use std::test::Fail;
 use tree_roots::{Root, RootTable, RootsFault};
 
@@ -67,74 +68,105 @@ fn roots_of(alloc: Global, paths: &[u8], texts: &[&[u8]]) -> Result<Vec<u8>, All
     }
 }
 
-#[test]
-fn directories_below_app_are_roots_in_the_order_of_their_bytes(
-    rt: HostRuntime,
-) -> Result<(), Fail> {
-    let cases = [
-        (b"config/loader.conf".as_slice(), b"".as_slice()),
-        (b"app/top.rb", b""),
-        (
-            b"app/models/a.rb app/controllers/b/c.rb",
-            b"app/controllers app/models",
-        ),
-        // The directory that the longer name begins with comes first, although `-` is less than `/`.
-        (
-            b"app/models-old/a.rb app/models/a.rb",
-            b"app/models app/models-old",
-        ),
-        (
-            b"app/assets/a.rb app/javascript/b.rb app/views/c.rb app/view/d.rb",
-            b"app/view",
-        ),
-        (
-            b"app/models/concerns/a.rb",
-            b"app/models app/models/concerns",
-        ),
-        (b"app/views/concerns/a.rb", b"app/views/concerns"),
-        (b"app/views/a/concerns/b.rb", b""),
-        (b"app/models/concerns.rb", b"app/models"),
-        (b"app/concerns/a.rb", b"app/concerns"),
-        (b"app/.hidden/a.rb", b"app/.hidden"),
-        (b"lib/models/a.rb", b""),
-    ];
-    for (paths, wanted) in cases {
-        assert_eq!(rt; roots_of(rt.alloc(), paths, &[])?.as_slice(), wanted);
+/// Paths of files, root lines, and the roots.
+type Case = (&'static [u8], &'static [&'static [u8]], &'static [u8]);
+
+fn each_has_roots(rt: &impl Abort, alloc: Global, cases: &[Case]) -> Result<(), Fail> {
+    for (paths, texts, wanted) in cases {
+        assert_eq!(rt;
+            roots_of(alloc, paths, texts)?.as_slice(),
+            *wanted,
+            "{paths:?}"
+        );
     }
     Ok(())
 }
 
+static DIRECTORIES: [Case; 12] = [
+    (b"config/loader.conf", &[], b""),
+    (b"app/top.rb", &[], b""),
+    (
+        b"app/models/a.rb app/controllers/b/c.rb",
+        &[],
+        b"app/controllers app/models",
+    ),
+    // The directory that the longer name begins with comes first, although `-` is less than `/`.
+    (
+        b"app/models-old/a.rb app/models/a.rb",
+        &[],
+        b"app/models app/models-old",
+    ),
+    (
+        b"app/assets/a.rb app/javascript/b.rb app/views/c.rb app/view/d.rb",
+        &[],
+        b"app/view",
+    ),
+    (
+        b"app/models/concerns/a.rb",
+        &[],
+        b"app/models app/models/concerns",
+    ),
+    (b"app/views/concerns/a.rb", &[], b"app/views/concerns"),
+    (b"app/views/a/concerns/b.rb", &[], b""),
+    (b"app/models/concerns.rb", &[], b"app/models"),
+    (b"app/concerns/a.rb", &[], b"app/concerns"),
+    (b"app/.hidden/a.rb", &[], b"app/.hidden"),
+    (b"lib/models/a.rb", &[], b""),
+];
+
+#[test]
+fn directories_below_app_are_roots_in_the_order_of_their_bytes(
+    rt: HostRuntime,
+) -> Result<(), Fail> {
+    each_has_roots(&rt, rt.alloc(), &DIRECTORIES)
+}
+
+static LINES: [Case; 4] = [
+    (
+        b"app/models/a.rb app/services/b.rb lib/c.rb",
+        &[b"lib/x", b"lib/a>Lib>Inner"],
+        b"app/models app/services lib/x lib/a>Lib>Inner",
+    ),
+    (
+        b"app/models/a.rb app/services/b.rb lib/c.rb",
+        &[b"lib/x", b"app/services>Services", b"app/assets"],
+        b"app/models app/services>Services lib/x app/assets",
+    ),
+    (
+        b"app/models/a.rb app/services/b.rb lib/c.rb",
+        &[b"lib/x", b"lib/y", b"lib/z", b"lib/y", b"lib/x"],
+        b"two roots: lib/y",
+    ),
+    (
+        b"app/models/a.rb app/services/b.rb lib/c.rb",
+        &[b"app/models", b"app/models>Twice"],
+        b"two roots: app/models",
+    ),
+];
+
 #[test]
 fn root_lines_come_behind_the_default_roots(rt: HostRuntime) -> Result<(), Fail> {
-    let alloc = rt.alloc();
-    let paths = b"app/models/a.rb app/services/b.rb lib/c.rb".as_slice();
-    assert_eq!(rt;
-        roots_of(alloc, paths, &[b"lib/x", b"lib/a>Lib>Inner"])?.as_slice(),
-        b"app/models app/services lib/x lib/a>Lib>Inner".as_slice()
-    );
-    assert_eq!(rt;
-        roots_of(
-            alloc,
-            paths,
-            &[b"lib/x", b"app/services>Services", b"app/assets"]
-        )?
-        .as_slice(),
-        b"app/models app/services>Services lib/x app/assets".as_slice()
-    );
-    assert_eq!(rt;
-        roots_of(
-            alloc,
-            paths,
-            &[b"lib/x", b"lib/y", b"lib/z", b"lib/y", b"lib/x"]
-        )?
-        .as_slice(),
-        b"two roots: lib/y".as_slice()
-    );
-    assert_eq!(rt;
-        roots_of(alloc, paths, &[b"app/models", b"app/models>Twice"])?.as_slice(),
-        b"two roots: app/models".as_slice()
-    );
-    Ok(())
+    each_has_roots(&rt, rt.alloc(), &LINES)
+}
+
+/// A path, and the place of the longest root above it.
+static ABOVE: [(&[u8], Option<u32>); 10] = [
+    (b"app/models/user.rb", Some(0)),
+    (b"app/models/concerns/b.rb", Some(1)),
+    (b"app/models/concerns.rb", Some(0)),
+    (b"app/models/admin/x/y.rb", Some(2)),
+    (b"app/models/admin_user.rb", Some(0)),
+    (b"app/models", None),
+    (b"app/mod/x.rb", None),
+    (b"lib/deep/er/a.rb", Some(3)),
+    (b"lib/deep/a.rb", None),
+    (b"", None),
+];
+
+fn each_is_below(rt: &impl Abort, table: &RootTable, rows: &[(&[u8], Option<u32>)]) {
+    for (path, wanted) in rows {
+        assert_eq!(rt; table.above(path), *wanted, "{path:?}");
+    }
 }
 
 #[test]
@@ -147,25 +179,12 @@ fn the_longest_root_above_a_path_is_found(rt: HostRuntime) -> Result<(), Fail> {
     match RootTable::new(rt.alloc(), files.as_slice(), lines.as_slice()) {
         Err(_) => assert!(rt; false, "no roots"),
         Ok(table) => {
+            let wanted = b"app/models app/models/concerns app/models/admin>Admin lib/deep/er";
             assert_eq!(rt;
                 written(rt.alloc(), table.roots())?.as_slice(),
-                b"app/models app/models/concerns app/models/admin>Admin lib/deep/er".as_slice()
+                wanted.as_slice()
             );
-            let cases = [
-                (b"app/models/user.rb".as_slice(), Some(0)),
-                (b"app/models/concerns/b.rb", Some(1)),
-                (b"app/models/concerns.rb", Some(0)),
-                (b"app/models/admin/x/y.rb", Some(2)),
-                (b"app/models/admin_user.rb", Some(0)),
-                (b"app/models", None),
-                (b"app/mod/x.rb", None),
-                (b"lib/deep/er/a.rb", Some(3)),
-                (b"lib/deep/a.rb", None),
-                (b"", None),
-            ];
-            for (path, wanted) in cases {
-                assert_eq!(rt; table.above(path), wanted);
-            }
+            each_is_below(&rt, &table, &ABOVE);
         }
     }
     Ok(())
