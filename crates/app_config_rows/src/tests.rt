@@ -20,13 +20,17 @@ fn each_is_read(rt: &impl Abort, alloc: Global, rows: &[Row]) -> Result<(), Fail
     Ok(())
 }
 
-static FIELDS: [Row; 2] = [
+static FIELDS: [Row; 3] = [
     (
         b"root app/api Api::V1\ncollapse app/models/booking/actions\nignore app/models/*_old.rb\n\
         inflect html_parser HTMLParser\non_load Hotel ready\nskip_eager app/lib/*.rb\nroot lib/x\n",
         b"root app/api (Api::V1)\nroot lib/x ()\ncollapse app/models/booking/actions\n\
         ignore app/models/*_old.rb\nskip_eager app/lib/*.rb\ninflect html_parser HTMLParser\n\
         on_load Hotel [ready]\n",
+    ),
+    (
+        b"inflect api API\ninflect html HTML\ninflect api Api",
+        b"inflect api API\ninflect html HTML\ninflect api Api\n",
     ),
     (b"", b""),
 ];
@@ -150,6 +154,7 @@ fn the_last_inflection_of_a_base_wins(rt: HostRuntime) -> Result<(), Fail> {
 fn an_empty_configuration_has_no_entry(rt: HostRuntime) -> Result<(), Fail> {
     let config = Config::new(rt.alloc());
     assert_eq!(rt; shown(rt.alloc(), &config)?.len(), 0);
+    assert!(rt; config.inflection(b"").is_none());
     Ok(())
 }
 
