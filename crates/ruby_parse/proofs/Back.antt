@@ -7,12 +7,12 @@ use Rattle.ruby_grammar.specs.Rules.{file}
 use Rattle.ruby_grammar.specs.Language.{ruby_grammar}
 use Rattle.ruby_grammar.specs.Faults.{IsText}
 use Rattle.ruby_print.specs.Definitions.{print}
-use Rattle.printed_pieces.specs.Definitions.{file_pieces}
-use Rattle.printed_pieces.specs.Reprinted.{IsDeepText}
-use Rattle.printed_tokens.specs.Flows.{tokens_at}
-use Rattle.printed_trees.proofs.Law.{formed_text}
-use Rattle.printed_words.proofs.Law.{formed_is_spelled}
-use Rattle.printed_tokens.proofs.Files.{formed_is_lexed}
+use Rattle.ruby_print_pieces.specs.Definitions.{file_pieces}
+use Rattle.ruby_print_pieces.specs.Reprinted.{IsDeepText}
+use Rattle.ruby_print_tokens.specs.Flows.{tokens_at}
+use Rattle.ruby_print_trees.proofs.Law.{formed_text}
+use Rattle.ruby_print_words.proofs.Law.{formed_is_spelled}
+use Rattle.ruby_print_tokens.proofs.Files.{formed_is_lexed}
 
 read_back : (bytes text : List ℕ) (tree : FileTree) → text ≡ print tree → IsText bytes tree → IsDeepText text tree
 read_back bytes text tree e t =

@@ -8,9 +8,9 @@ use Rattle.descent.specs.Reading as r
 use Rattle.ruby_grammar.specs.Words.{Word, words_of}
 use Rattle.ruby_grammar.specs.Faults.{Kind, expected, not_in_profile, too_deep, twice_defined, IsText, lexical, of_grammar, NoText, no_token}
 use Rattle.ruby_grammar.specs.Answers.{fault_kind, fault_place}
-use Rattle.ruby_reader.specs.declared.fault.Fault.{Fault}
-use Rattle.ruby_reader.specs.declared.fault.Fault.TheVariants as f
-use Rattle.ruby_definition.specs.Answers.{GivesFile}
+use Rattle.ruby_parse_cursor.specs.declared.fault.Fault.{Fault}
+use Rattle.ruby_parse_cursor.specs.declared.fault.Fault.TheVariants as f
+use Rattle.ruby_parse_definition.specs.Answers.{GivesFile}
 use Rattle.ruby_grammar.proofs.Texts.{one_text, no_fault_in_a_text, text_read, fault_read, fault_before, fault_of_lexer}
 use Rattle.ruby_parse.specs.declared.fault.SyntaxFault.{SyntaxFault}
 use Rattle.ruby_parse.specs.declared.fault.SyntaxKind.{SyntaxKind}

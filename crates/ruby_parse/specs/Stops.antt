@@ -8,8 +8,8 @@ use Rattle.ruby_grammar.specs.Marks.{Mark}
 use Rattle.ruby_grammar.specs.Rules.{ruby, a_tree}
 use Rattle.ruby_grammar.specs.Faults.{Kind, expected, not_in_profile, too_deep, twice_defined, place}
 use Rattle.ruby_grammar.specs.Answers.{ReadsFile, IsFault, fault_kind, fault_place, kind_of_next}
-use Rattle.ruby_reader.specs.declared.fault.Fault.{Fault}
-use Rattle.ruby_reader.specs.declared.fault.Fault.TheVariants as f
+use Rattle.ruby_parse_cursor.specs.declared.fault.Fault.{Fault}
+use Rattle.ruby_parse_cursor.specs.declared.fault.Fault.TheVariants as f
 use Rattle.ruby_parse.specs.declared.fault.SyntaxFault.{SyntaxFault}
 use Rattle.ruby_parse.specs.declared.fault.SyntaxKind.{SyntaxKind}
 use Rattle.ruby_parse.specs.declared.fault.SyntaxKind.TheVariants as k

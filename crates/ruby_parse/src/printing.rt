@@ -3,7 +3,7 @@
 ghost use Rattle.std.specs.Prelude.{◌≡◌, ℕ, List, IfOk};
 ghost use Rattle.ruby_grammar.specs.Faults.{IsText};
 ghost use Rattle.ruby_print.specs.Definitions as layout;
-ghost use Rattle.printed_pieces.specs.Reprinted.{IsDeepText};
+ghost use Rattle.ruby_print_pieces.specs.Reprinted.{IsDeepText};
 
 use ruby_types::{FileTree, Text};
 use std::alloc::{AllocError, Global};

@@ -9,10 +9,10 @@ use Rattle.app_config.specs.Configuration.{configuration, faults}
 use Rattle.app_config.specs.declared.config.Config.{Config}
 use Rattle.app_config.specs.declared.config.ConfigFault.{ConfigFault}
 use Rattle.app_config.specs.declared.config.RootLine.{RootLine}
-use Rattle.tree_roots.specs.Roots.{AreRoots, default_root, line_root, names_none_of}
-use Rattle.tree_roots.specs.declared.roots.Root.{Root}
-use Rattle.tree_roots.proofs.FaultLaws.{no_fault}
-use Rattle.site_table.proofs.MemberLaws.{In, in_from_Contains, Contains-from_in, Each, of_each, Rises, rises_from_AllPairs}
+use Rattle.tree_scan_roots.specs.Roots.{AreRoots, default_root, line_root, names_none_of}
+use Rattle.tree_scan_roots.specs.declared.roots.Root.{Root}
+use Rattle.tree_scan_roots.proofs.FaultLaws.{no_fault}
+use Rattle.tree_scan_sites.proofs.MemberLaws.{In, in_from_Contains, Contains-from_in, Each, of_each, Rises, rises_from_AllPairs}
 use Rattle.tree_scan.specs.Spells.{HasBadName}
 use Rattle.tree_scan.specs.Scanned.{Scanned}
 use Rattle.tree_scan.specs.Sites.{AreSites, IsFault}

@@ -2,13 +2,13 @@
 use Rattle.std.specs.Prelude.{◌≡◌, ℕ, List, [], map, All, AllPairs, Contains, ⊤}
 use Rattle.outside.specs.declared.files.FileEntry.{FileEntry}
 use Rattle.app_config.specs.declared.config.Config.{Config}
-use Rattle.site_table.specs.declared.spelled.Site.{Site}
-use Rattle.site_table.specs.declared.spelled.Site.TheVariants as site
-use Rattle.site_table.specs.declared.spelled.SiteRow.{SiteRow}
-use Rattle.site_table.specs.Listed.{Lists}
-use Rattle.site_table.specs.Paths.{IsBeforePath}
-use Rattle.site_table.specs.Rows.{paths_of_rows}
-use Rattle.site_table.specs.Sites.{IsSite}
+use Rattle.tree_scan_sites.specs.declared.spelled.Site.{Site}
+use Rattle.tree_scan_sites.specs.declared.spelled.Site.TheVariants as site
+use Rattle.tree_scan_sites.specs.declared.spelled.SiteRow.{SiteRow}
+use Rattle.tree_scan_sites.specs.Listed.{Lists}
+use Rattle.tree_scan_sites.specs.Paths.{IsBeforePath}
+use Rattle.tree_scan_sites.specs.Rows.{paths_of_rows}
+use Rattle.tree_scan_sites.specs.Sites.{IsSite}
 use Rattle.tree_scan.specs.Scanned.{Scanned}
 use Rattle.tree_scan.specs.Sites.{AreSites, IsFault, path_at}
 use Rattle.tree_scan.specs.declared.fault.ScanFault.TheVariants as scan

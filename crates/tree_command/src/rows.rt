@@ -4,7 +4,7 @@ ghost use Rattle.tree_command.specs.Tree.{place_of, listed};
 
 use lists::Copying;
 use outside::{FileEntry, FilePath};
-use site_table::{Site, SiteRow};
+use tree_scan_sites::{Site, SiteRow};
 use std::alloc::{AllocError, Global};
 use tree_report::{ListedSite, Place};
 

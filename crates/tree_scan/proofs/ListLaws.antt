@@ -6,9 +6,9 @@ use Rattle.std.proofs.lemmas.List.Elements.{Contains-push, Contains-push_cases, 
 use Rattle.std.proofs.lemmas.Option.{slice_get_within, slice_get-get_or}
 use Rattle.outside.specs.declared.files.FileEntry.{FileEntry}
 use Rattle.app_config.specs.declared.config.Config.{Config}
-use Rattle.tree_roots.specs.declared.roots.Root.{Root}
-use Rattle.site_table.specs.declared.spelled.Spelled.{Spelled}
-use Rattle.site_table.specs.Listed.{Lists}
+use Rattle.tree_scan_roots.specs.declared.roots.Root.{Root}
+use Rattle.tree_scan_sites.specs.declared.spelled.Spelled.{Spelled}
+use Rattle.tree_scan_sites.specs.Listed.{Lists}
 use Rattle.tree_scan.specs.declared.spelling.RootedConstant.{RootedConstant}
 use Rattle.tree_scan.specs.declared.fault.ScanFault.{ScanFault}
 use Rattle.tree_scan.specs.declared.fault.ScanFault.TheVariants.{BadName, TwoRoots, Memory}

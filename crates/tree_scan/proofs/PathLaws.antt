@@ -7,7 +7,7 @@ use Rattle.std.proofs.lemmas.List.Kept.{AllPairs-from_increasing}
 use Rattle.outside.specs.Order.{Rising, IsBefore}
 use Rattle.outside.specs.Tree.{paths_of}
 use Rattle.outside.specs.declared.files.FileEntry.{FileEntry}
-use Rattle.site_table.proofs.MemberLaws.{in_from_Contains, Contains-from_in, in_mapped, mapped_in}
+use Rattle.tree_scan_sites.proofs.MemberLaws.{in_from_Contains, Contains-from_in, in_mapped, mapped_in}
 use Rattle.tree_scan.specs.Sites.{HasPath, ArePathsOf, path_in, path_at}
 
 entry_at : (files : List FileEntry) (n : ℕ) → n < length files → (entry : FileEntry) × (slice_get files n ≡ Some entry)

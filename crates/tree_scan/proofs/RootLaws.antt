@@ -4,11 +4,11 @@ use Rattle.std.proofs.lemmas.List.{length-append, length-map}
 use Rattle.std.proofs.Math.Seq.{take-append_seam, drop-append-add}
 use Rattle.std.proofs.lemmas.Option.{slice_get_within, get_or_from_slice_get}
 use Rattle.std.proofs.lemmas.List.Elements.{Contains-get_or}
-use Rattle.tree_roots.specs.declared.roots.Root.{Root}
-use Rattle.tree_roots.specs.Roots.{root_paths}
-use Rattle.tree_roots.specs.Directories.{IsAbove}
-use Rattle.tree_roots.specs.Above.{IsLongestAbove, NoneAbove}
-use Rattle.tree_names.specs.Spellings.{above, behind}
+use Rattle.tree_scan_roots.specs.declared.roots.Root.{Root}
+use Rattle.tree_scan_roots.specs.Roots.{root_paths}
+use Rattle.tree_scan_roots.specs.Directories.{IsAbove}
+use Rattle.tree_scan_roots.specs.Above.{IsLongestAbove, NoneAbove}
+use Rattle.tree_scan_names.specs.Spellings.{above, behind}
 use Rattle.tree_scan.proofs.PathLaws.{at_map}
 
 -- the root's length in the path, and what stands around the slash there

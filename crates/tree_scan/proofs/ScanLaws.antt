@@ -6,12 +6,12 @@ use Rattle.std.proofs.lemmas.Option.{slice_get_within}
 use Rattle.outside.specs.Tree.{paths_of}
 use Rattle.outside.specs.declared.files.FileEntry.{FileEntry}
 use Rattle.app_config.specs.declared.config.Config.{Config}
-use Rattle.tree_roots.specs.Roots.{AreRoots, NamesOnce}
-use Rattle.tree_roots.specs.declared.roots.Root.{Root}
-use Rattle.site_table.specs.declared.spelled.Spelled.{Spelled}
-use Rattle.site_table.specs.Listed.{Lists}
-use Rattle.site_table.specs.Sites.{IsShadowed}
-use Rattle.site_table.proofs.SiteLaws.{SameSpellings, same_back, same_shadowed, same_listed}
+use Rattle.tree_scan_roots.specs.Roots.{AreRoots, NamesOnce}
+use Rattle.tree_scan_roots.specs.declared.roots.Root.{Root}
+use Rattle.tree_scan_sites.specs.declared.spelled.Spelled.{Spelled}
+use Rattle.tree_scan_sites.specs.Listed.{Lists}
+use Rattle.tree_scan_sites.specs.Sites.{IsShadowed}
+use Rattle.tree_scan_sites.proofs.SiteLaws.{SameSpellings, same_back, same_shadowed, same_listed}
 use Rattle.tree_scan.specs.Spells.{Spells, HasBadName}
 use Rattle.tree_scan.specs.Scanned.{Scanned}
 use Rattle.tree_scan.specs.Sites.{AreSites, ArePathsOf, HasPath}

@@ -1,15 +1,15 @@
 -- What a path spells, told by its part below the longest root.
 use Rattle.std.proofs.Common.{◌≡◌, ◌≢◌, ◌↔◌, ◌⊎◌, ℕ, List, ◌∷◌, ◌++◌, length, Option, Some, slice_get, AllPairs, refl, sym, ap, ◌∙◌, subst, inl, inr}
 use Rattle.app_config.specs.declared.config.Config.{Config}
-use Rattle.tree_roots.specs.declared.roots.Root.{Root}
-use Rattle.tree_roots.specs.Roots.{root_paths}
-use Rattle.tree_roots.specs.Above.{IsLongestAbove}
-use Rattle.tree_names.specs.Counts.{Counts, IsHidden, IsIgnored}
-use Rattle.tree_names.specs.Below.{EndsInRb, SpellsBelow}
-use Rattle.tree_names.specs.Spellings.{above, behind, AreConstants, IsSpelling}
-use Rattle.tree_names.specs.declared.spelling.Spelling.{Spelling}
-use Rattle.tree_names.specs.declared.spelling.Spelling.TheVariants.{Names, Nothing, BadName}
-use Rattle.tree_names.proofs.SpellLaws.{SpellsBelow-one}
+use Rattle.tree_scan_roots.specs.declared.roots.Root.{Root}
+use Rattle.tree_scan_roots.specs.Roots.{root_paths}
+use Rattle.tree_scan_roots.specs.Above.{IsLongestAbove}
+use Rattle.tree_scan_names.specs.Counts.{Counts, IsHidden, IsIgnored}
+use Rattle.tree_scan_names.specs.Below.{EndsInRb, SpellsBelow}
+use Rattle.tree_scan_names.specs.Spellings.{above, behind, AreConstants, IsSpelling}
+use Rattle.tree_scan_names.specs.declared.spelling.Spelling.{Spelling}
+use Rattle.tree_scan_names.specs.declared.spelling.Spelling.TheVariants.{Names, Nothing, BadName}
+use Rattle.tree_scan_names.proofs.SpellLaws.{SpellsBelow-one}
 use Rattle.tree_scan.specs.Spells.{SpellsNames, SpellsConstant, HasBadName}
 use Rattle.tree_scan.proofs.RootLaws.{at_root, below_root, same_path, same_below, one_number}
 

@@ -1,6 +1,6 @@
 -- The faults of a scan.
-use Rattle.tree_roots.specs.declared.roots.RootsFault.{RootsFault}
-use Rattle.tree_roots.specs.declared.roots.RootsFault.TheVariants as r
+use Rattle.tree_scan_roots.specs.declared.roots.RootsFault.{RootsFault}
+use Rattle.tree_scan_roots.specs.declared.roots.RootsFault.TheVariants as r
 use Rattle.tree_scan.specs.declared.fault.ScanFault.{ScanFault}
 use Rattle.tree_scan.specs.declared.fault.ScanFault.TheVariants.{TwoRoots, Memory}
 

@@ -4,10 +4,10 @@ use Rattle.outside.specs.Order.{Rising}
 use Rattle.outside.specs.Tree.{paths_of}
 use Rattle.outside.specs.declared.files.FileEntry.{FileEntry}
 use Rattle.app_config.specs.declared.config.Config.{Config}
-use Rattle.tree_roots.specs.Roots.{AreRoots, IsTwoRoots, NamesOnce}
-use Rattle.tree_roots.specs.declared.roots.Root.{Root}
-use Rattle.site_table.specs.Listed.{Lists}
-use Rattle.site_table.specs.Sites.{IsShadowed}
+use Rattle.tree_scan_roots.specs.Roots.{AreRoots, IsTwoRoots, NamesOnce}
+use Rattle.tree_scan_roots.specs.declared.roots.Root.{Root}
+use Rattle.tree_scan_sites.specs.Listed.{Lists}
+use Rattle.tree_scan_sites.specs.Sites.{IsShadowed}
 use Rattle.tree_scan.specs.Scanned.{Scanned}
 use Rattle.tree_scan.specs.Spells.{Spells, HasBadName, IsFirstBadName}
 use Rattle.tree_scan.specs.declared.fault.ScanFault.{ScanFault}

@@ -2,7 +2,7 @@
 use Rattle.std.specs.Prelude.{◌≡◌, ℕ, List, Option, Some, None, ⊤}
 use Rattle.outside.specs.declared.files.FileEntry.{FileEntry}
 use Rattle.app_config.specs.declared.config.Config.{Config}
-use Rattle.tree_roots.specs.declared.roots.Root.{Root}
+use Rattle.tree_scan_roots.specs.declared.roots.Root.{Root}
 use Rattle.tree_scan.specs.Spells.{HasBadName, IsFirstBadName}
 use Rattle.tree_scan.specs.declared.spelling.RootedConstant.{RootedConstant}
 use Rattle.tree_scan.specs.declared.fault.ScanFault.{ScanFault}

@@ -2,11 +2,11 @@
 use Rattle.std.specs.Prelude.{◌≡◌, ℕ, List, ◌∷◌, ◌++◌, Some, slice_get, All, Contains}
 use Rattle.outside.specs.declared.files.FileEntry.{FileEntry}
 use Rattle.app_config.specs.declared.config.Config.{Config}
-use Rattle.tree_roots.specs.declared.roots.Root.{Root}
-use Rattle.tree_roots.specs.Above.{IsLongestAbove}
-use Rattle.tree_names.specs.Counts.{Counts}
-use Rattle.tree_names.specs.Below.{SpellsBelow}
-use Rattle.tree_names.specs.Spellings.{AreConstants}
+use Rattle.tree_scan_roots.specs.declared.roots.Root.{Root}
+use Rattle.tree_scan_roots.specs.Above.{IsLongestAbove}
+use Rattle.tree_scan_names.specs.Counts.{Counts}
+use Rattle.tree_scan_names.specs.Below.{SpellsBelow}
+use Rattle.tree_scan_names.specs.Spellings.{AreConstants}
 
 -- A file that counts spells these names below the root of this number, which is the longest root above its path. The names
 -- are those of the directories below the root that aren't collapsed, and that of the file.

@@ -2,7 +2,7 @@ ghost use Rattle.std.specs.Prelude.{◌≡◌};
 
 use outside::FilePath;
 use std::alloc::AllocError;
-use tree_roots::RootsFault;
+use tree_scan_roots::RootsFault;
 
 /// Why an application has no sites.
 #[derive(Drop)]

@@ -11,5 +11,5 @@ mod spelling;
 
 pub use fault::ScanFault;
 pub use scanning::scan;
-pub use site_table::{Site, SiteRow};
+pub use tree_scan_sites::{Site, SiteRow};
 pub use sites::{FilePaths, Sites};

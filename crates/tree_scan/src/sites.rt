@@ -1,14 +1,14 @@
 ghost use Rattle.std.specs.Prelude.{◌≡◌, ◌↔◌, ℕ, List, Contains, All, AllPairs, IfSome, IfNone};
-ghost use Rattle.site_table.specs.declared.spelled.Site.{Site as SiteValue};
-ghost use Rattle.site_table.specs.Sites.{IsSite, IsFileOf, ListsChildren};
-ghost use Rattle.site_table.specs.Listed.{Lists};
-ghost use Rattle.site_table.specs.Rows.{paths_of_rows};
-ghost use Rattle.site_table.specs.Paths.{IsBeforePath};
+ghost use Rattle.tree_scan_sites.specs.declared.spelled.Site.{Site as SiteValue};
+ghost use Rattle.tree_scan_sites.specs.Sites.{IsSite, IsFileOf, ListsChildren};
+ghost use Rattle.tree_scan_sites.specs.Listed.{Lists};
+ghost use Rattle.tree_scan_sites.specs.Rows.{paths_of_rows};
+ghost use Rattle.tree_scan_sites.specs.Paths.{IsBeforePath};
 
 use lists::Listed;
 use outside::FilePath;
 use ruby_types::CPath;
-use site_table::{Names, Site, SiteRow, SiteTable};
+use tree_scan_sites::{Names, Site, SiteRow, SiteTable};
 use std::marker::Model;
 
 /// Paths of files.

@@ -1,7 +1,7 @@
 //! What the files of a snapshot spell.
 ghost use Rattle.std.specs.Prelude.{◌≡◌, ◌≢◌, ◌↔◌, ◌<◌, ◌^◌, ◌++◌, [], ◌∷◌, ℕ, List, Some, None, length, slice_get, All, AllPairs, IfOk, IfErr, OnOk};
-ghost use Rattle.tree_roots.specs.Roots.{root_paths};
-ghost use Rattle.site_table.specs.Listed.{Lists};
+ghost use Rattle.tree_scan_roots.specs.Roots.{root_paths};
+ghost use Rattle.tree_scan_sites.specs.Listed.{Lists};
 ghost use Rattle.tree_scan.specs.Spells.{SpellsConstant, Spells, HasBadName};
 ghost use Rattle.tree_scan.specs.Spelling.{SpelledBy, IsNameFault, IsNameFaultOf};
 
@@ -10,10 +10,10 @@ use app_config::Config;
 use lists::Copying;
 use outside::FileEntry;
 use ruby_types::{CPath, Text, TextList};
-use site_table::Spelled;
+use tree_scan_sites::Spelled;
 use std::alloc::{AllocError, Global};
-use tree_names::{Spelling, names_below};
-use tree_roots::{Root, RootTable};
+use tree_scan_names::{Spelling, names_below};
+use tree_scan_roots::{Root, RootTable};
 
 /// A constant and the number of the root below which it is spelled.
 #[derive(Drop)]

@@ -1,6 +1,6 @@
 use Rattle.std.proofs.Common.{rules, Ok, Err, subst, sym}
 use Rattle.ruby_grammar.specs.Words.{words_of}
-use Rattle.ruby_definition.specs.Answers.{GivesFile}
+use Rattle.ruby_parse_definition.specs.Answers.{GivesFile}
 use Rattle.ruby_parse.specs.Stops.{Stopped}
 use Rattle.ruby_parse.proofs.Stopping.{is_left, is_stopped}
 use Rattle.ruby_parse.proofs.words.read.Goals as goal

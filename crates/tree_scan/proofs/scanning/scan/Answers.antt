@@ -1,6 +1,6 @@
 use Rattle.std.proofs.Common.{◌≡◌, sym, subst}
 use Rattle.outside.specs.Tree.{paths_of}
-use Rattle.tree_roots.specs.Roots.{AreRoots, NamesOnce}
+use Rattle.tree_scan_roots.specs.Roots.{AreRoots, NamesOnce}
 use Rattle.tree_scan.specs.Sites.{AreSites}
 use Rattle.tree_scan.proofs.ScanLaws.{table_spells, shadowed_within, are_sites}
 use Rattle.tree_scan.proofs.scanning.scan.Goals as goal

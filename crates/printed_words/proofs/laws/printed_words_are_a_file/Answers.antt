@@ -1,5 +1,0 @@
-use Rattle.printed_words.proofs.Law.{formed_is_spelled as law}
-use Rattle.printed_words.proofs.laws.printed_words_are_a_file.Goals as goal
-
-pub returns : goal.returns
-returns c = λ tree h. law tree h

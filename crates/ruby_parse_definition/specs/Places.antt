@@ -1,0 +1,8 @@
+-- Where a definition stands, as the code has it.
+use Rattle.std.specs.Prelude.{false}
+use Rattle.ruby_grammar.specs.Rules.{Body}
+use Rattle.ruby_grammar.specs.Definitions.{body}
+use Rattle.ruby_parse_definition.specs.declared.place.Place.{Place}
+
+abbrev pub body_view : Place → Body
+body_view p = body p.levels false p.path.now

@@ -1,0 +1,27 @@
+//! Paths of modules and classes.
+
+ghost use Rattle.std.specs.Prelude.{◌≤◌, None, length};
+ghost use Rattle.ruby_grammar.specs.Rules as rules;
+ghost use Rattle.ruby_parse_steps.specs.Gives.{GivesRule};
+
+use ruby_parse_cursor::{Fault, Reader};
+use ruby_parse_steps::path_rest;
+use ruby_types::CPath;
+use std::alloc::Global;
+
+/// The names that follow, each behind `::`, where the flag allows any.
+pub fn allowed_rest(
+    alloc: Global,
+    may_go_on: bool,
+    first: CPath,
+    reader: &mut Reader<'_>,
+) -> Result<CPath, Fault>
+    ensures reads { GivesRule (rules.path_rest may_go_on None first) reader.old result reader.new }
+    ensures shorter { length reader.new ≤ length reader.old }
+{
+    if may_go_on {
+        path_rest(alloc, first, reader)
+    } else {
+        Ok(first)
+    }
+}

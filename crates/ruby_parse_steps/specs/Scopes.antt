@@ -1,0 +1,6 @@
+-- Where an expression stands, as the code has it.
+use Rattle.ruby_parse_steps.specs.declared.scope.Scope.{Scope as Held}
+use Rattle.ruby_grammar.specs.Rules.{Scope}
+
+abbrev pub scope_view : Held → Scope
+scope_view s = record { levels = s.levels; names = s.locals.now }

@@ -1,0 +1,50 @@
+//! Choices that were begun, and how they end.
+
+ghost use Rattle.std.specs.Prelude.{◌≡◌, ◌≤◌, ◌∷◌, ◌++◌, [], length, OnOk};
+ghost use Rattle.ruby_parse_steps.specs.Scopes.{scope_view};
+ghost use Rattle.ruby_parse_steps.specs.Opens.{GivesEnded};
+
+use crate::operators::choice;
+use crate::scope::Scope;
+use ruby_parse_cursor::signs::COLON;
+use ruby_parse_cursor::{Fault, Reader};
+use ruby_types::Expr;
+use std::alloc::AllocError;
+
+/// A choice whose end wasn't read yet: `test ?`, or `test ? value :`.
+#[derive(Drop)]
+pub enum Open {
+    Test(Expr),
+    Other(Expr, Expr),
+}
+
+pub fn push_open(opens: &mut Vec<Open>, begun: Open) -> Result<(), AllocError>
+    ensures { OnOk result (opens.new.items ≡ opens.old.items ++ begun ∷ []) }
+{
+    opens.push(begun)?;
+    Ok(())
+}
+
+/// Ends each choice that ends with this value. None where one goes on behind its `:`.
+pub fn ended(
+    scope: Scope<'_, '_>,
+    opens: &mut Vec<Open>,
+    value: Expr,
+    reader: &mut Reader<'_>,
+) -> Result<Option<Expr>, Fault>
+    ensures reads { GivesEnded (scope_view scope.entry) opens.old.items value reader.old result opens.new.items reader.new }
+    ensures shorter { length reader.new ≤ length reader.old }
+{
+    let mut value = value;
+    'opens: loop {
+        match opens.pop() {
+            None => return Ok(Some(value)),
+            Some(Open::Other(test, first)) => value = choice(scope.alloc, test, first, value)?,
+            Some(Open::Test(test)) => {
+                reader.take(COLON)?;
+                push_open(opens, Open::Other(test, value))?;
+                return Ok(None);
+            }
+        }
+    }
+}

@@ -1,6 +1,0 @@
-use Rattle.std.proofs.Common.{◌≡◌, drop}
-use Rattle.ruby_token.specs.Number.{magnitude_from, magnitude}
-use Rattle.ruby_reader.proofs.numbers.magnitude.Given as goal
-
-abbrev pub invariant-digits : goal.invariant-digits
-invariant-digits l = magnitude_from l.value (drop l.digit-index l.digits) ≡ magnitude l.digits

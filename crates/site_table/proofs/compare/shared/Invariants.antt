@@ -1,9 +1,0 @@
-use Rattle.std.proofs.Common.{◌≡◌, ◌+◌, length}
-use Rattle.site_table.specs.Paths.{shared}
-use Rattle.site_table.proofs.compare.shared.Given as goal
-
-abbrev pub invariant-names : goal.invariant-names
-invariant-names l = record { counted : l.count + length l.left ≡ length l.path; same : l.count + shared l.left l.right ≡ shared l.path l.other }
-
-abbrev pub decreases-names : goal.decreases-names
-decreases-names l = length l.left

@@ -1,6 +1,0 @@
-use Rattle.std.proofs.Common.{◌≡◌, ◌++◌}
-use Rattle.site_table.specs.Reached.{longer}
-use Rattle.site_table.proofs.prefixes.push_longer.Given as goal
-
-abbrev pub invariant-lengths : goal.invariant-lengths
-invariant-lengths l = l.paths.items ++ longer l.length l.constant ≡ l.initial.paths.items ++ longer l.names l.constant

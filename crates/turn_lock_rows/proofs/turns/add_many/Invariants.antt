@@ -1,6 +1,0 @@
-use Rattle.std.proofs.Common.{◌≡◌}
-use Rattle.turn_lock_rows.specs.Ready.{IsReady}
-use Rattle.turn_lock_rows.proofs.turns.add_many.Given as goal
-
-abbrev pub invariant-loop : goal.invariant-loop
-invariant-loop g l = record { ready : IsReady l.lock l.ticket; same : l.ticket.number ≡ l.fn.ticket.number }
