@@ -1,5 +1,6 @@
 -- What is left of a configuration while its text is read.
-use Rattle.std.proofs.Common.{◌≡◌, ◌≢◌, ◌+◌, ◌<◌, ◌≤◌, ℕ, suc, zero, true, false, List, [], ◌∷◌, ◌++◌, length, take, drop, get_or, map, refl, sym, ap, subst, ◌∙◌, arith}
+use Rattle.std.proofs.Common.{◌≡◌, ◌≢◌, ◌+◌, ◌<◌, ◌≤◌, ℕ, suc, zero, true, false, List, [], ◌∷◌, ◌++◌, length, take}
+use Rattle.std.proofs.Common.{drop, get_or, map, refl, sym, ap, subst, ◌∙◌, arith}
 use Rattle.std.specs.Prelude.{Option, Some, None, Result, Ok, Err, IsOk, MatchOption, is_some}
 use Rattle.std.proofs.lemmas.List.{append_assoc, append-nil, take-append-drop, drop_more}
 use Rattle.std.proofs.lemmas.Bool.{false≢true}
@@ -8,7 +9,8 @@ use Rattle.app_config.specs.Inflections.{LacksBase, IsLastFor}
 use Rattle.app_config.specs.Text.{split, without_return}
 use Rattle.app_config.specs.Left.{parts_left, size_left}
 use Rattle.app_config.specs.Entries.{meaning}
-use Rattle.app_config.specs.Configuration.{collected, entries, entry_said, fault_said, faults_from, with_entry, with_said, IsFirst}
+use Rattle.app_config.specs.Configuration.{collected, entries, entry_said, fault_said, faults_from, with_entry}
+use Rattle.app_config.specs.Configuration.{with_said, IsFirst}
 use Rattle.app_config.specs.declared.entries.Entry.{Entry}
 use Rattle.app_config.specs.declared.entries.Entry.TheVariants.{Root, Collapse, Ignore, SkipEager, Inflect, OnLoad}
 use Rattle.app_config.specs.declared.config.Config.{Config}
@@ -17,33 +19,42 @@ use Rattle.app_config.specs.declared.config.ConfigKind.{ConfigKind}
 
 -- The last pair of a base.
 
-pub IsLastFor-at : (pairs : List (List ℕ × List ℕ)) (n : ℕ) (base constant : List ℕ) (d : List ℕ × List ℕ) → n < length pairs → get_or pairs n d ≡ (base, constant) → LacksBase (drop (n + 1) pairs) base → IsLastFor pairs base constant
+pub IsLastFor-at : (pairs : List (List ℕ × List ℕ)) (n : ℕ) (base constant : List ℕ) (d : List ℕ × List ℕ) →
+    n < length pairs → get_or pairs n d ≡ (base, constant) → LacksBase (drop (n + 1) pairs) base →
+    IsLastFor pairs base constant
 IsLastFor-at pairs n base constant d within here later = record {
   earlier = take n pairs;
   later = drop (n + 1) pairs;
-  stands = sym (take-append-drop n pairs) ∙ ap (λ x. take n pairs ++ x) (drop_more pairs n d within ∙ ap (λ x. x ∷ drop (n + 1) pairs) here);
+  stands = sym (take-append-drop n pairs)
+      ∙ ap (λ x. take n pairs ++ x) (drop_more pairs n d within ∙ ap (λ x. x ∷ drop (n + 1) pairs) here);
   last = later;
 }
 
-LacksBase-cons : (pair : List ℕ × List ℕ) (pairs : List (List ℕ × List ℕ)) (base : List ℕ) → pair.0 ≢ base → LacksBase pairs base → LacksBase (pair ∷ pairs) base
+LacksBase-cons : (pair : List ℕ × List ℕ) (pairs : List (List ℕ × List ℕ)) (base : List ℕ) → pair.0 ≢ base →
+    LacksBase pairs base → LacksBase (pair ∷ pairs) base
 LacksBase-cons pair pairs base here later zero d within = here
 LacksBase-cons pair pairs base here later (suc k) d within = later k d (omega arith)
 
-pub LacksBase-more : (pairs : List (List ℕ × List ℕ)) (n : ℕ) (base : List ℕ) (d : List ℕ × List ℕ) → n < length pairs → (get_or pairs n d).0 ≢ base → LacksBase (drop (n + 1) pairs) base → LacksBase (drop n pairs) base
+pub LacksBase-more : (pairs : List (List ℕ × List ℕ)) (n : ℕ) (base : List ℕ) (d : List ℕ × List ℕ) →
+    n < length pairs → (get_or pairs n d).0 ≢ base → LacksBase (drop (n + 1) pairs) base → LacksBase (drop n pairs) base
 LacksBase-more pairs n base d within here later =
     let P : List (List ℕ × List ℕ) → Type 0 = λ x. LacksBase x base in
     subst P (sym (drop_more pairs n d within)) (LacksBase-cons (get_or pairs n d) (drop (n + 1) pairs) base here later)
 
 -- what a look at the pair before the later ones tells
-pub found-last : (all pairs : List (List ℕ × List ℕ)) (n next : ℕ) (base : List ℕ) (pair : List ℕ × List ℕ) (found : Option (Bor (List ℕ))) → pairs ≡ all → n + 1 ≡ next → n < length pairs → pair ≡ get_or pairs n pair →
-    MatchOption found (pair.0 ≢ base) (λ constant. pair ≡ (base, constant.now)) → is_some found ≡ true → LacksBase (drop next pairs) base →
+pub found-last : (all pairs : List (List ℕ × List ℕ)) (n next : ℕ) (base : List ℕ) (pair : List ℕ × List ℕ)
+    (found : Option (Bor (List ℕ))) → pairs ≡ all → n + 1 ≡ next → n < length pairs → pair ≡ get_or pairs n pair →
+    MatchOption found (pair.0 ≢ base) (λ constant. pair ≡ (base, constant.now)) → is_some found ≡ true →
+    LacksBase (drop next pairs) base →
     MatchOption found (LacksBase all base) (λ constant. IsLastFor all base constant.now)
 found-last all pairs n next base pair None e m within here h t later = absurd (false≢true t)
 found-last all pairs n next base pair (Some constant) e m within here h t later =
     rw (← e) (IsLastFor-at pairs n base constant.now pair within (sym here ∙ h) (rw m later))
 
-pub lacks-one_more : (pairs : List (List ℕ × List ℕ)) (n next : ℕ) (base : List ℕ) (pair : List ℕ × List ℕ) (found : Option (Bor (List ℕ))) → n + 1 ≡ next → n < length pairs → pair ≡ get_or pairs n pair →
-    MatchOption found (pair.0 ≢ base) (λ constant. pair ≡ (base, constant.now)) → is_some found ≡ false → LacksBase (drop next pairs) base → LacksBase (drop n pairs) base
+pub lacks-one_more : (pairs : List (List ℕ × List ℕ)) (n next : ℕ) (base : List ℕ) (pair : List ℕ × List ℕ)
+    (found : Option (Bor (List ℕ))) → n + 1 ≡ next → n < length pairs → pair ≡ get_or pairs n pair →
+    MatchOption found (pair.0 ≢ base) (λ constant. pair ≡ (base, constant.now)) → is_some found ≡ false →
+    LacksBase (drop next pairs) base → LacksBase (drop n pairs) base
 lacks-one_more pairs n next base pair None m within here h t later =
     LacksBase-more pairs n base pair within (rw (← here) h) (rw m later)
 lacks-one_more pairs n next base pair (Some constant) m within here h t later = absurd (false≢true (sym t))
@@ -63,7 +74,8 @@ joined front back = record {
 pub joined-nil : (config : Config) → joined config (collected []) ≡ config
 joined-nil config = simp append-nil
 
-joined-entry : (config : Config) (entry : Entry) (more : List Entry) → joined (with_entry config entry) (collected more) ≡ joined config (collected (entry ∷ more))
+joined-entry : (config : Config) (entry : Entry) (more : List Entry) →
+    joined (with_entry config entry) (collected more) ≡ joined config (collected (entry ∷ more))
 joined-entry config (Root line) more = simp append_assoc
 joined-entry config (Collapse pattern) more = simp append_assoc
 joined-entry config (Ignore pattern) more = simp append_assoc
@@ -71,7 +83,8 @@ joined-entry config (SkipEager pattern) more = simp append_assoc
 joined-entry config (Inflect pair) more = simp append_assoc
 joined-entry config (OnLoad line) more = simp append_assoc
 
-pub joined-said : (config : Config) (said : Result (Option Entry) ConfigKind) (more : List Entry) → joined (with_said config said) (collected more) ≡ joined config (collected (entry_said said ++ more))
+pub joined-said : (config : Config) (said : Result (Option Entry) ConfigKind) (more : List Entry) →
+    joined (with_said config said) (collected more) ≡ joined config (collected (entry_said said ++ more))
 joined-said config (Ok None) more = refl
 joined-said config (Ok (Some entry)) more = joined-entry config entry more
 joined-said config (Err kind) more = refl
@@ -82,28 +95,47 @@ fault_said-sound number (Err kind) h = absurd (false≢true h)
 
 -- A step to the next line.
 
-parts_left-step : (byte : ℕ) (text line : List ℕ) (behind : Option (Bor (List ℕ))) → MatchOption behind (split byte text ≡ line ∷ []) (λ rest. split byte text ≡ line ∷ split byte rest.now) → split byte text ≡ line ∷ parts_left byte behind
+parts_left-step : (byte : ℕ) (text line : List ℕ) (behind : Option (Bor (List ℕ))) →
+    MatchOption behind (split byte text ≡ line ∷ []) (λ rest. split byte text ≡ line ∷ split byte rest.now) →
+    split byte text ≡ line ∷ parts_left byte behind
 parts_left-step byte text line None h = h
 parts_left-step byte text line (Some rest) h = h
 
-pub lines_left-step : (text : Bor (List ℕ)) (rest behind : Option (Bor (List ℕ))) (line trimmed : List ℕ) → rest ≡ Some text →
-    MatchOption behind (split 10 text.now ≡ line ∷ []) (λ more. split 10 text.now ≡ line ∷ split 10 more.now) → trimmed ≡ without_return line →
+pub lines_left-step : (text : Bor (List ℕ)) (rest behind : Option (Bor (List ℕ))) (line trimmed : List ℕ) →
+    rest ≡ Some text →
+    MatchOption behind (split 10 text.now ≡ line ∷ []) (λ more. split 10 text.now ≡ line ∷ split 10 more.now) →
+    trimmed ≡ without_return line →
     map without_return (parts_left 10 rest) ≡ trimmed ∷ map without_return (parts_left 10 behind)
 lines_left-step text rest behind line trimmed e parts t =
-    ap (λ r. map without_return (parts_left 10 r)) e ∙ (ap (map without_return) (parts_left-step 10 text.now line behind parts) ∙ ap (λ x. x ∷ map without_return (parts_left 10 behind)) (sym t))
+    ap (λ r. map without_return (parts_left 10 r)) e
+    ∙ (ap (map without_return) (parts_left-step 10 text.now line behind parts)
+    ∙ ap (λ x. x ∷ map without_return (parts_left 10 behind)) (sym t))
 
-pub size_left-step : (text line : List ℕ) (behind : Option (Bor (List ℕ))) → MatchOption behind (length line ≡ length text) (λ rest. length line + length rest.now + 1 ≡ length text) → size_left behind ≤ length text
+pub size_left-step : (text line : List ℕ) (behind : Option (Bor (List ℕ))) →
+    MatchOption behind (length line ≡ length text) (λ rest. length line + length rest.now + 1 ≡ length text) →
+    size_left behind ≤ length text
 size_left-step text line None h = omega arith
 size_left-step text line (Some rest) h = omega arith
 
-pub config-step : (all config added : Config) (left more : List (List ℕ)) (line : List ℕ) → left ≡ line ∷ more → added ≡ with_said config (meaning line) → joined config (collected (entries left)) ≡ all → joined added (collected (entries more)) ≡ all
+pub config-step : (all config added : Config) (left more : List (List ℕ)) (line : List ℕ) → left ≡ line ∷ more →
+    added ≡ with_said config (meaning line) → joined config (collected (entries left)) ≡ all →
+    joined added (collected (entries more)) ≡ all
 config-step all config added left more line next e inv =
-    ap (λ c. joined c (collected (entries more))) e ∙ (joined-said config (meaning line) (entries more) ∙ (ap (λ lines. joined config (collected (entries lines))) (sym next) ∙ inv))
+    ap (λ c. joined c (collected (entries more))) e
+    ∙ (joined-said config (meaning line) (entries more)
+    ∙ (ap (λ lines. joined config (collected (entries lines))) (sym next) ∙ inv))
 
-pub faults-step : (all : List ConfigFault) (number : ℕ) (left more : List (List ℕ)) (line : List ℕ) → left ≡ line ∷ more → IsOk (meaning line) → faults_from number left ≡ all → faults_from (number + 1) more ≡ all
+pub faults-step : (all : List ConfigFault) (number : ℕ) (left more : List (List ℕ)) (line : List ℕ) →
+    left ≡ line ∷ more → IsOk (meaning line) → faults_from number left ≡ all → faults_from (number + 1) more ≡ all
 faults-step all number left more line next sound inv =
-    ap (λ front. front ++ faults_from (number + 1) more) (sym (fault_said-sound number (meaning line) sound)) ∙ (ap (faults_from number) (sym next) ∙ inv)
+    ap (λ front. front ++ faults_from (number + 1) more) (sym (fault_said-sound number (meaning line) sound))
+    ∙ (ap (faults_from number) (sym next) ∙ inv)
 
-pub faults-first : (all : List ConfigFault) (number : ℕ) (kind : ConfigKind) (left more : List (List ℕ)) (line : List ℕ) → left ≡ line ∷ more → meaning line ≡ Err kind → faults_from number left ≡ all → IsFirst (record { line = number; kind = kind }) all
-faults-first all number kind left more line next e inv =
-    (faults_from (number + 1) more, sym inv ∙ (ap (faults_from number) next ∙ ap (λ said. fault_said number said ++ faults_from (number + 1) more) e))
+pub faults-first : (all : List ConfigFault) (number : ℕ) (kind : ConfigKind) (left more : List (List ℕ))
+    (line : List ℕ) → left ≡ line ∷ more → meaning line ≡ Err kind → faults_from number left ≡ all →
+    IsFirst (record { line = number; kind = kind }) all
+faults-first all number kind left more line next e inv = (
+  faults_from (number + 1) more,
+  sym inv
+      ∙ (ap (faults_from number) next ∙ ap (λ said. fault_said number said ++ faults_from (number + 1) more) e),
+)

@@ -1,5 +1,6 @@
 -- Words, and the parts that stand around a byte.
-use Rattle.std.proofs.Common.{◌≡◌, ◌<◌, ◌≤◌, ◌+◌, ◌-◌, ◌==◌, ℕ, true, false, cond, not, List, [], ◌∷◌, length, take, drop, refl, sym, ap, ◌∙◌, arith}
+use Rattle.std.proofs.Common.{◌≡◌, ◌<◌, ◌≤◌, ◌+◌, ◌-◌, ◌==◌, ℕ, true, false, cond, not, List, [], ◌∷◌, length, take}
+use Rattle.std.proofs.Common.{drop, refl, sym, ap, ◌∙◌, arith}
 use Rattle.std.specs.Str.{IsUtf8, is_utf8}
 use Rattle.std.proofs.lemmas.Str.{IsUtf8-from_is_utf8}
 use Rattle.std.proofs.lemmas.Bool.{eqb-true, false≢true}
@@ -16,16 +17,21 @@ split-cut byte place text e within =
     rw (take_rest text (place + 1), e) (slice_split_first (λ b. b == byte) text 0 at_first)
 
 -- a text without the byte is its one part
-pub split-none : (byte : ℕ) (text : List ℕ) → length text ≤ position_or_len (λ b. b == byte) text → split byte text ≡ text ∷ []
+pub split-none : (byte : ℕ) (text : List ℕ) → length text ≤ position_or_len (λ b. b == byte) text →
+    split byte text ≡ text ∷ []
 split-none byte [] h = refl
 split-none byte (first ∷ rest) h =
-    elim (first == byte) as (λ v. length (first ∷ rest) ≤ cond (not v) (1 + position_or_len (λ b. b == byte) rest) 0 → cond v ([] ∷ split byte rest) (onto_first first (split byte rest)) ≡ (first ∷ rest) ∷ [])
-    [ true ↦ λ past. absurd (omega arith) | false ↦ λ past. ap (onto_first first) (split-none byte rest (omega arith)) ] h
+    elim (first == byte) as (λ v. length (first ∷ rest) ≤ cond (not v) (1 + position_or_len (λ b. b == byte) rest) 0
+    → cond v ([] ∷ split byte rest) (onto_first first (split byte rest)) ≡ (first ∷ rest) ∷ []) [
+      | true ↦ λ past. absurd (omega arith)
+      | false ↦ λ past. ap (onto_first first) (split-none byte rest (omega arith))
+    ] h
 
 pub words-behind_spaces : (text : List ℕ) → words (behind_spaces text) ≡ words text
 words-behind_spaces [] = refl
 words-behind_spaces (first ∷ rest) =
-    elim (first == 32) as (λ v. (first == 32) ≡ v → words (cond v (behind_spaces rest) (first ∷ rest)) ≡ filter is_filled (cond v ([] ∷ split 32 rest) (onto_first first (split 32 rest))))
+    elim (first == 32) as (λ v. (first == 32) ≡ v → words (cond v (behind_spaces rest) (first ∷ rest))
+    ≡ filter is_filled (cond v ([] ∷ split 32 rest) (onto_first first (split 32 rest))))
     [ true ↦ λ e. words-behind_spaces rest | false ↦ λ e. rw e refl ] refl
 
 -- spaces alone have no word
@@ -33,21 +39,32 @@ pub words-spaces : (text line : List ℕ) → line ≡ behind_spaces text → (l
 words-spaces text [] e h = sym (words-behind_spaces text) ∙ ap words (sym e)
 words-spaces text (first ∷ rest) e h = absurd (omega (arith, eqb-true _ 0 h))
 
-filled_first : (first : ℕ) (parts : List (List ℕ)) (word : List ℕ) (others : List (List ℕ)) → onto_first first parts ≡ word ∷ others → filter is_filled (onto_first first parts) ≡ word ∷ filter is_filled others
+filled_first : (first : ℕ) (parts : List (List ℕ)) (word : List ℕ) (others : List (List ℕ)) →
+    onto_first first parts ≡ word ∷ others → filter is_filled (onto_first first parts) ≡ word ∷ filter is_filled others
 filled_first first [] word others e = cc
 filled_first first (part ∷ parts) word others e = cc
 
 -- the first word is the first part behind the spaces
-pub words-word : (text word : List ℕ) (others : List (List ℕ)) → 0 < length (behind_spaces text) → split 32 (behind_spaces text) ≡ word ∷ others → words text ≡ word ∷ filter is_filled others
+pub words-word : (text word : List ℕ) (others : List (List ℕ)) → 0 < length (behind_spaces text) →
+    split 32 (behind_spaces text) ≡ word ∷ others → words text ≡ word ∷ filter is_filled others
 words-word [] word others h e = absurd (omega arith)
 words-word (first ∷ rest) word others h e =
-    elim (first == 32) as (λ v. (first == 32) ≡ v → 0 < length (cond v (behind_spaces rest) (first ∷ rest)) → split 32 (cond v (behind_spaces rest) (first ∷ rest)) ≡ word ∷ others → filter is_filled (cond v ([] ∷ split 32 rest) (onto_first first (split 32 rest))) ≡ word ∷ filter is_filled others)
-    [ true ↦ λ t k d. words-word rest word others k d | false ↦ λ t k d. filled_first first (split 32 rest) word others (sym (slice_split-cons_no (λ b. b == 32) first rest t) ∙ d) ] refl h e
+    elim (first == 32) as (λ v. (first == 32) ≡ v → 0 < length (cond v (behind_spaces rest) (first ∷ rest)) →
+    split 32 (cond v (behind_spaces rest) (first ∷ rest)) ≡ word ∷ others →
+    filter is_filled (cond v ([] ∷ split 32 rest) (onto_first first (split 32 rest)))
+    ≡ word ∷ filter is_filled others) [
+      | true ↦ λ t k d. words-word rest word others k d
+      | false ↦ λ t k d. filled_first first (split 32 rest) word others
+          (sym (slice_split-cons_no (λ b. b == 32) first rest t) ∙ d)
+    ] refl h e
 
-pub words-line : (text line word : List ℕ) (others : List (List ℕ)) → line ≡ behind_spaces text → (length line == 0) ≡ false → split 32 line ≡ word ∷ others → words text ≡ word ∷ filter is_filled others
+pub words-line : (text line word : List ℕ) (others : List (List ℕ)) → line ≡ behind_spaces text →
+    (length line == 0) ≡ false → split 32 line ≡ word ∷ others → words text ≡ word ∷ filter is_filled others
 words-line text [] word others e h d = absurd (false≢true (sym h))
 words-line text (first ∷ rest) word others e h d =
-    words-word text word others (let more : 0 < length (first ∷ rest) = omega arith in rw (sym e) more) (ap (split 32) (sym e) ∙ d)
+    words-word text word others (let more : 0 < length (first ∷ rest) = omega arith in rw (sym e) more)
+    (ap (split 32) (sym e) ∙ d)
 
 pub not_utf8 : (bytes : List ℕ) → ¬ (IsUtf8 bytes) → false ≡ is_utf8 bytes
-not_utf8 bytes h = elim (is_utf8 bytes) as (λ v. is_utf8 bytes ≡ v → false ≡ v) [ true ↦ λ e. absurd (h (IsUtf8-from_is_utf8 bytes e)) | false ↦ λ e. refl ] refl
+not_utf8 bytes h = elim (is_utf8 bytes) as (λ v. is_utf8 bytes ≡ v →
+    false ≡ v) [ true ↦ λ e. absurd (h (IsUtf8-from_is_utf8 bytes e)) | false ↦ λ e. refl ] refl

@@ -1,5 +1,6 @@
 -- What a line of a configuration says.
-use Rattle.std.specs.Prelude.{◌≡◌, ◌≢◌, ℕ, ◌∷◌, List, [], Bool, true, ◌==◌, if◌then◌else◌, codes, bytes_eq, Option, Some, None, Result, Ok, Err, MatchResult}
+use Rattle.std.specs.Prelude.{◌≡◌, ◌≢◌, ℕ, ◌∷◌, List, [], Bool, true, ◌==◌, if◌then◌else◌, codes, bytes_eq, Option}
+use Rattle.std.specs.Prelude.{Some, None, Result, Ok, Err, MatchResult}
 use Rattle.std.specs.Str.{is_utf8}
 use Rattle.app_config.specs.Text.{words, behind_spaces, behind_word}
 use Rattle.app_config.specs.Paths.{is_constant, is_constant_path, constant_names, is_tree_path}
@@ -10,7 +11,8 @@ use Rattle.app_config.specs.declared.entries.Entry.TheVariants.{Root, Collapse, 
 use Rattle.app_config.specs.declared.operands.Operands.{Operands}
 use Rattle.app_config.specs.declared.operands.Operands.TheVariants as operands
 use Rattle.app_config.specs.declared.config.ConfigKind.{ConfigKind}
-use Rattle.app_config.specs.declared.config.ConfigKind.TheVariants.{UnknownWord, WordCount, BadPath, BadName, NotUtf8, Memory}
+use Rattle.app_config.specs.declared.config.ConfigKind.TheVariants.{UnknownWord, WordCount, BadPath, BadName, NotUtf8}
+use Rattle.app_config.specs.declared.config.ConfigKind.TheVariants.{Memory}
 
 -- a value made of what was read, or the same fault
 abbrev pub mapped : {A B : Type 0} → (A → B) → Result A ConfigKind → Result B ConfigKind
@@ -33,7 +35,8 @@ constant_path word = if is_constant_path word then Ok (constant_names word) else
 -- a root at a path; a bad path goes before a bad name
 abbrev pub root_at : List ℕ → Result (List (List ℕ)) ConfigKind → Result Entry ConfigKind
 root_at path namespace =
-    if is_tree_path path then mapped (λ names. Root (record { path = path; namespace = names })) namespace else Err BadPath
+    if is_tree_path path then mapped (λ names. Root (record { path = path; namespace = names })) namespace else Err
+    BadPath
 
 -- `root PATH` or `root PATH CPATH`; without CPATH the namespace is Object, which has no names
 abbrev pub root_entry : List (List ℕ) → Result Entry ConfigKind
@@ -53,7 +56,8 @@ inflect_entry _ = Err WordCount
 
 -- `on_load CPATH TEXT`: the text is all of the line behind the spaces that follow CPATH
 abbrev pub on_load_entry : List (List ℕ) → List ℕ → Result Entry ConfigKind
-on_load_entry (constant ∷ _ ∷ _) text = mapped (λ names. OnLoad (record { constant = names; text = text })) (constant_path constant)
+on_load_entry (constant ∷ _ ∷ _) text = mapped (λ names. OnLoad (record { constant = names; text = text }))
+    (constant_path constant)
 on_load_entry _ text = Err WordCount
 
 -- what a directive says of the words behind it, and of the text behind the first of these
@@ -93,4 +97,5 @@ abbrev pub AreOperands : Operands → List (List ℕ) → Type 0
 AreOperands operands.None found = found ≡ []
 AreOperands (operands.One first) found = found ≡ first.now ∷ []
 AreOperands (operands.Two first second) found = found ≡ first.now ∷ second.now ∷ []
-AreOperands operands.More found = (first second third : List ℕ) × (rest : List (List ℕ)) × (found ≡ first ∷ second ∷ third ∷ rest)
+AreOperands operands.More found = (first second third : List ℕ) × (rest : List (List ℕ))
+    × (found ≡ first ∷ second ∷ third ∷ rest)

@@ -1,5 +1,6 @@
 -- The lines of a text and the words of a line.
-use Rattle.std.specs.Prelude.{ℕ, ◌-◌, Bool, true, false, List, [], ◌∷◌, length, take, map, slice_index, ◌==◌, if◌then◌else◌}
+use Rattle.std.specs.Prelude.{ℕ, ◌-◌, Bool, true, false, List, [], ◌∷◌, length, take, map, slice_index, ◌==◌}
+use Rattle.std.specs.Prelude.{if◌then◌else◌}
 use Rattle.std.specs.List.{slice_split, filter, after_first}
 
 -- the parts of a text around each occurrence of a byte, one more than there are occurrences

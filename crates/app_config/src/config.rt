@@ -86,7 +86,8 @@ impl Config {
 
     /// What a base name is camelized to: the constant of the last `inflect` line that has the base.
     pub fn inflection(&self, base: &[u8]) -> Option<&ConfigText>
-        ensures { MatchOption result (LacksBase self.now.inflect base.now) (λ constant. IsLastFor self.now.inflect base.now constant.now) }
+        ensures { MatchOption result (LacksBase self.now.inflect base.now)
+            (λ constant. IsLastFor self.now.inflect base.now constant.now) }
     {
         let pairs = self.inflect.as_slice();
         let mut left = pairs.len();

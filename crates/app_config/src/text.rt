@@ -15,9 +15,12 @@ fn place_of(text: &[u8], byte: u8) -> usize
 
 /// What stands before the first `byte` of a text, and what stands behind it, where there is one.
 pub(crate) fn cut(text: &[u8], byte: u8) -> (&[u8], Option<&[u8]>)
-    ensures parts { MatchOption result.1 (split byte text.now ≡ result.0.now ∷ []) (λ rest. split byte text.now ≡ result.0.now ∷ split byte rest.now) }
-    ensures behind { MatchOption result.1 (after_first (λ b. b == byte) text.now ≡ []) (λ rest. rest.now ≡ after_first (λ b. b == byte) text.now) }
-    ensures length { MatchOption result.1 (length result.0.now ≡ length text.now) (λ rest. length result.0.now + length rest.now + 1 ≡ length text.now) }
+    ensures parts { MatchOption result.1 (split byte text.now ≡ result.0.now ∷ [])
+        (λ rest. split byte text.now ≡ result.0.now ∷ split byte rest.now) }
+    ensures behind { MatchOption result.1 (after_first (λ b. b == byte) text.now ≡ [])
+        (λ rest. rest.now ≡ after_first (λ b. b == byte) text.now) }
+    ensures length { MatchOption result.1 (length result.0.now ≡ length text.now)
+        (λ rest. length result.0.now + length rest.now + 1 ≡ length text.now) }
 {
     let place = place_of(text, byte);
     if place < text.len() {

@@ -1,4 +1,5 @@
-//! Configurations as texts: a line for each entry, field by field. The names of a namespace stand in parentheses, a text in brackets.
+//! Configurations as texts: a line for each entry, field by field. The names of a namespace stand in parentheses, a
+//! text in brackets.
 
 use app_config::{Config, ConfigTexts, LoadLine, Patterns, RootLine, TextPairs};
 use std::alloc::{AllocError, Global};

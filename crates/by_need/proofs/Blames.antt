@@ -1,11 +1,13 @@
 -- Where the questions of a lost task end.
-use Rattle.std.proofs.Common.{◌≡◌, ℕ, zero, suc, ◌+◌, ◌-◌, ◌≤◌, ◌<◌, List, [], ◌∷◌, ◌++◌, length, Bool, true, false, cond, inl, inr, refl, sym, ap, ◌∙◌, subst, arith, take, drop, get_or}
+use Rattle.std.proofs.Common.{◌≡◌, ℕ, zero, suc, ◌+◌, ◌-◌, ◌≤◌, ◌<◌, List, [], ◌∷◌, ◌++◌, length, Bool, true, false}
+use Rattle.std.proofs.Common.{cond, inl, inr, refl, sym, ap, ◌∙◌, subst, arith, take, drop, get_or}
 use Rattle.std.proofs.lemmas.Bool.{false≢true, or_cases, or_right, or_left, cases_lt}
 use Rattle.by_need.proofs.Tables.{Chain, first_or, asks_task}
 use Rattle.by_need.proofs.Rounds.{Part-refl}
 use Rattle.by_need.specs.Asking.{Answer, Done, Raised, Asks, Otherwise}
 use Rattle.by_need.specs.Rounds.{Rules, is_in, is_task, known}
-use Rattle.by_need.specs.Blame.{Fault, Circle, Ended, asked_by, next, follow, walk, least_of, until, circle_of, ring_of, cause_at, cause_of, blame}
+use Rattle.by_need.specs.Blame.{Fault, Circle, Ended, asked_by, next, follow, walk, least_of, until, circle_of, ring_of}
+use Rattle.by_need.specs.Blame.{cause_at, cause_of, blame}
 use Rattle.by_need.specs.Laws.{Lawful}
 
 -- u is on a ring of p tasks
@@ -43,7 +45,8 @@ module _ {T V E O : Type 0} (r : Rules T V E O) where
   pub drop-walk : (i n : ℕ) (t : T) → i ≤ n → drop i (walk r n t) ≡ walk r (n - i) (follow r i t)
   drop-walk zero n t le = let e : n ≡ n - 0 = omega arith in ap (λ k. walk r k t) e
   drop-walk (suc i) zero t le = absurd (omega (arith, le))
-  drop-walk (suc i) (suc n) t le = let e : n - i ≡ suc n - suc i = omega arith in drop-walk i n (next r t) (omega (arith, le)) ∙ ap (λ k. walk r k (follow r i (next r t))) e
+  drop-walk (suc i) (suc n) t le = let e : n - i ≡ suc n - suc i = omega arith in
+      drop-walk i n (next r t) (omega (arith, le)) ∙ ap (λ k. walk r k (follow r i (next r t))) e
 
   pub take-walk : (i n : ℕ) (t : T) → i ≤ n → take i (walk r n t) ≡ walk r i t
   take-walk zero n t le = refl
@@ -76,7 +79,8 @@ module _ {T V E O : Type 0} (r : Rules T V E O) where
   chain_walk [] u c = refl
   chain_walk (t ∷ ts) u c = ap (λ us. t ∷ us) (ap (walk r (length ts)) (next_asks t _ c.0) ∙ chain_walk ts u c.1)
 
-  pub chain_asks : (ts : List T) (u : T) → Chain r (known r) ts u → (j : ℕ) → j < length ts → (w : T) × ((r.run (follow r j (first_or u ts)) (known r)).answer ≡ Asks w)
+  pub chain_asks : (ts : List T) (u : T) → Chain r (known r) ts u → (j : ℕ) → j < length ts → (w : T)
+      × ((r.run (follow r j (first_or u ts)) (known r)).answer ≡ Asks w)
   chain_asks [] u c j lt = absurd (omega (arith, lt))
   chain_asks (t ∷ ts) u c zero lt = (first_or u ts, c.0)
   chain_asks (t ∷ ts) u c (suc j) lt =
@@ -88,16 +92,20 @@ module _ {T V E O : Type 0} (r : Rules T V E O) where
   stay_follow (suc n) t e = ap (follow r n) e ∙ stay_follow n t e
 
   -- what leads to an error in at most as many steps as there are tasks has it for its blame
-  pub blame_raised : (d : ℕ) (t x : T) (e : E) → d ≤ length r.tasks → follow r d t ≡ x → (r.run x (known r)).answer ≡ Raised e → blame r t ≡ Fault e
+  pub blame_raised : (d : ℕ) (t x : T) (e : E) → d ≤ length r.tasks → follow r d t ≡ x →
+      (r.run x (known r)).answer ≡ Raised e → blame r t ≡ Fault e
   blame_raised d t x e le f h =
       let n = length r.tasks in
-      let s : follow r n t ≡ x = follow_add d (n - d) n (omega arith) t ∙ ap (follow r (n - d)) f ∙ stay_follow (n - d) x (next_raised x e h) in
+      let s : follow r n t ≡ x = follow_add d (n - d) n (omega arith) t ∙ ap (follow r (n - d)) f
+      ∙ stay_follow (n - d) x (next_raised x e h) in
       ap (cause_of r) s ∙ ap (cause_at r x) h
 
-  pub blame_otherwise : (d : ℕ) (t x : T) (o : O) → d ≤ length r.tasks → follow r d t ≡ x → (r.run x (known r)).answer ≡ Otherwise o → blame r t ≡ Ended o
+  pub blame_otherwise : (d : ℕ) (t x : T) (o : O) → d ≤ length r.tasks → follow r d t ≡ x →
+      (r.run x (known r)).answer ≡ Otherwise o → blame r t ≡ Ended o
   blame_otherwise d t x o le f h =
       let n = length r.tasks in
-      let s : follow r n t ≡ x = follow_add d (n - d) n (omega arith) t ∙ ap (follow r (n - d)) f ∙ stay_follow (n - d) x (next_otherwise x o h) in
+      let s : follow r n t ≡ x = follow_add d (n - d) n (omega arith) t ∙ ap (follow r (n - d)) f
+      ∙ stay_follow (n - d) x (next_otherwise x o h) in
       ap (cause_of r) s ∙ ap (cause_at r x) h
 
 module _ {T V E O : Type 0} (r : Rules T V E O) (laws : Lawful r) where
@@ -138,13 +146,18 @@ module _ {T V E O : Type 0} (r : Rules T V E O) (laws : Lawful r) where
     pub member : is_in r m ts ≡ true
     pub below : (z : T) → is_in r z ts ≡ true → r.at_most m z ≡ true
 
-  least_at : (t u : T) (us : List T) (b : Bool) → r.at_most t u ≡ b → Least (least_of r t us) (t ∷ us) → Least (least_of r u us) (u ∷ us) → Least (cond b (least_of r t us) (least_of r u us)) (t ∷ u ∷ us)
+  least_at : (t u : T) (us : List T) (b : Bool) → r.at_most t u ≡ b → Least (least_of r t us) (t ∷ us) →
+      Least (least_of r u us) (u ∷ us) → Least (cond b (least_of r t us) (least_of r u us)) (t ∷ u ∷ us)
   least_at t u us true e lt lu = record {
-    member = elim (or_cases (r.same (least_of r t us) t) _ lt.member) [ inl h ↦ or_left (r.same (least_of r t us) t) _ h | inr h ↦ or_right (r.same (least_of r t us) t) _ (or_right (r.same (least_of r t us) u) _ h) ];
+    member = elim (or_cases (r.same (least_of r t us) t) _ lt.member) [
+      | inl h ↦ or_left (r.same (least_of r t us) t) _ h
+      | inr h ↦ or_right (r.same (least_of r t us) t) _ (or_right (r.same (least_of r t us) u) _ h)
+    ];
     below = λ z h. elim (or_cases (r.same z t) _ h) [
       | inl h1 ↦ lt.below z (or_left (r.same z t) _ h1)
       | inr h1 ↦ elim (or_cases (r.same z u) _ h1) [
-        | inl h2 ↦ subst (λ x. r.at_most (least_of r t us) x ≡ true) (sym (laws.same_is z u h2)) (laws.chain _ t u (lt.below t (or_left (r.same t t) _ (laws.same_self t))) e)
+        | inl h2 ↦ subst (λ x. r.at_most (least_of r t us) x ≡ true) (sym (laws.same_is z u h2))
+            (laws.chain _ t u (lt.below t (or_left (r.same t t) _ (laws.same_self t))) e)
         | inr h2 ↦ lt.below z (or_right (r.same z t) _ h2)
       ]
     ];
@@ -152,7 +165,8 @@ module _ {T V E O : Type 0} (r : Rules T V E O) (laws : Lawful r) where
   least_at t u us false e lt lu = record {
     member = or_right (r.same (least_of r u us) t) _ lu.member;
     below = λ z h. elim (or_cases (r.same z t) _ h) [
-      | inl h1 ↦ subst (λ x. r.at_most (least_of r u us) x ≡ true) (sym (laws.same_is z t h1)) (laws.chain _ u t (lu.below u (or_left (r.same u u) _ (laws.same_self u))) (laws.total t u e))
+      | inl h1 ↦ subst (λ x. r.at_most (least_of r u us) x ≡ true) (sym (laws.same_is z t h1))
+          (laws.chain _ u t (lu.below u (or_left (r.same u u) _ (laws.same_self u))) (laws.total t u e))
       | inr h1 ↦ lu.below z h1
     ];
   }
@@ -160,17 +174,24 @@ module _ {T V E O : Type 0} (r : Rules T V E O) (laws : Lawful r) where
   pub least_is : (t : T) (ts : List T) → Least (least_of r t ts) (t ∷ ts)
   least_is t [] = record {
     member = or_left (r.same t t) false (laws.same_self t);
-    below = λ z h. elim (or_cases (r.same z t) false h) [ inl e ↦ subst (λ x. r.at_most t x ≡ true) (sym (laws.same_is z t e)) (at_most_self t) | inr e ↦ absurd (false≢true e) ];
+    below = λ z h. elim (or_cases (r.same z t) false h) [
+      | inl e ↦ subst (λ x. r.at_most t x ≡ true) (sym (laws.same_is z t e)) (at_most_self t)
+      | inr e ↦ absurd (false≢true e)
+    ];
   }
   least_is t (u ∷ us) = least_at t u us (r.at_most t u) refl (least_is t us) (least_is u us)
 
   -- the way up to a task that is not met before
-  until_walk : (q n : ℕ) (x m : T) → q < n → follow r q x ≡ m → ((j : ℕ) → j < q → follow r j x ≡ m → ⊥) → until r m (walk r n x) ≡ walk r q x
+  until_walk : (q n : ℕ) (x m : T) → q < n → follow r q x ≡ m → ((j : ℕ) → j < q → follow r j x ≡ m → ⊥) →
+      until r m (walk r n x) ≡ walk r q x
   until_walk q zero x m lt e never = absurd (omega (arith, lt))
   until_walk zero (suc n) x m lt e never = rw (subst (λ y. r.same x y ≡ true) e (laws.same_self x)) refl
-  until_walk (suc q) (suc n) x m lt e never = at (r.same x m) refl (until_walk q n (next r x) m (omega (arith, lt)) e (λ j l f. never (suc j) (omega (arith, l)) f))
+  until_walk (suc q) (suc n) x m lt e never =
+      at (r.same x m) refl (until_walk q n (next r x) m (omega (arith, lt)) e
+      (λ j l f. never (suc j) (omega (arith, l)) f))
     where
-      at : (b : Bool) → r.same x m ≡ b → until r m (walk r n (next r x)) ≡ walk r q (next r x) → cond b [] (x ∷ until r m (walk r n (next r x))) ≡ x ∷ walk r q (next r x)
+      at : (b : Bool) → r.same x m ≡ b → until r m (walk r n (next r x)) ≡ walk r q (next r x) →
+          cond b [] (x ∷ until r m (walk r n (next r x))) ≡ x ∷ walk r q (next r x)
       at true s ih = absurd (never 0 (omega arith) (laws.same_is x m s))
       at false s ih = ap (λ us. x ∷ us) ih
 
@@ -179,7 +200,13 @@ module _ {T V E O : Type 0} (r : Rules T V E O) (laws : Lawful r) where
     on_next x o =
         elim (cases_lt (suc o.at) p) [
           | inl lt ↦ record { at = suc o.at; below = lt; is = follow_suc r o.at u ∙ ap (next r) o.is }
-          | inr ge ↦ let lt = o.below in let e : p ≡ suc o.at = omega (arith, lt, ge) in record { at = 0; below = ring.some; is = sym ring.back ∙ ap (λ k. follow r k u) e ∙ follow_suc r o.at u ∙ ap (next r) o.is }
+          | inr ge ↦ let lt = o.below in let e : p ≡ suc o.at = omega (arith, lt, ge) in
+              record {
+                at = 0;
+                below = ring.some;
+                is = sym ring.back ∙ ap (λ k. follow r k u) e ∙ follow_suc r o.at u
+                    ∙ ap (next r) o.is;
+              }
         ]
 
     pub on_follow : (n : ℕ) (x : T) → On r u p x → On r u p (follow r n x)
@@ -191,15 +218,26 @@ module _ {T V E O : Type 0} (r : Rules T V E O) (laws : Lawful r) where
 
     -- the rest of the way round
     home : (x : T) (o : On r u p x) → follow r (p - o.at) x ≡ u
-    home x o = let lt = o.below in ap (follow r (p - o.at)) (sym o.is) ∙ sym (follow_add r o.at (p - o.at) p (omega (arith, lt)) u) ∙ ring.back
+    home x o = let lt = o.below in ap (follow r (p - o.at)) (sym o.is)
+        ∙ sym (follow_add r o.at (p - o.at) p (omega (arith, lt)) u) ∙ ring.back
 
     pub between : (x y : T) → On r u p x → On r u p y → (j : ℕ) × (j < p) × (follow r j x ≡ y)
     between x y a b =
         let la = a.below in
         let lb = b.below in
         elim (cases_lt b.at a.at) [
-          | inl lt ↦ ((p - a.at) + b.at, omega (arith, la, lb, lt), follow_add r (p - a.at) b.at _ refl x ∙ ap (follow r b.at) (home x a) ∙ b.is)
-          | inr ge ↦ (b.at - a.at, omega (arith, la, lb, ge), ap (follow r (b.at - a.at)) (sym a.is) ∙ sym (follow_add r a.at (b.at - a.at) b.at (omega (arith, ge)) u) ∙ b.is)
+          | inl lt ↦ (
+            (p - a.at) + b.at,
+            omega (arith, la, lb, lt),
+            follow_add r (p - a.at) b.at _ refl x
+                ∙ ap (follow r b.at) (home x a) ∙ b.is,
+          )
+          | inr ge ↦ (
+            b.at - a.at,
+            omega (arith, la, lb, ge),
+            ap (follow r (b.at - a.at)) (sym a.is)
+                ∙ sym (follow_add r a.at (b.at - a.at) b.at (omega (arith, ge)) u) ∙ b.is,
+          )
         ]
 
     pub on_walk : (n : ℕ) (x z : T) → On r u p x → is_in r z (walk r n x) ≡ true → On r u p z
@@ -221,18 +259,22 @@ module _ {T V E O : Type 0} (r : Rules T V E O) (laws : Lawful r) where
         at (suc q) e =
             let s = ring.small in
             let h = between m m o o in
-            let again : follow r (suc q) m ≡ m = ap (λ k. follow r k m) (sym e) ∙ ap (follow r p) (sym o.is) ∙ follow_comm r p o.at u ∙ ap (follow r o.at) ring.back ∙ o.is in
-            ap (λ us. m ∷ us) (until_walk q (length r.tasks) (next r m) m (omega (arith, s, e)) again (λ j lt f. first_at m o (suc j) (omega arith) (omega (arith, e, lt)) f))
+            let again : follow r (suc q) m ≡ m = ap (λ k. follow r k m) (sym e) ∙ ap (follow r p) (sym o.is)
+            ∙ follow_comm r p o.at u ∙ ap (follow r o.at) ring.back ∙ o.is in
+            ap (λ us. m ∷ us) (until_walk q (length r.tasks) (next r m) m (omega (arith, s, e)) again
+            (λ j lt f. first_at m o (suc j) (omega arith) (omega (arith, e, lt)) f))
 
     on_task : (x : T) → On r u p x → is_task r x ≡ true
     on_task x o = subst (λ y. is_task r y ≡ true) o.is (follow_task o.at u ring.is)
 
-    pub ring_is : (x m : T) → On r u p x → On r u p m → ((z : T) → On r u p z → r.at_most m z ≡ true) → ring_of r x ≡ walk r p m
+    pub ring_is : (x m : T) → On r u p x → On r u p m → ((z : T) → On r u p z → r.at_most m z ≡ true) →
+        ring_of r x ≡ walk r p m
     ring_is x m ox om below =
         let n = length r.tasks in
         let l = least_is x (walk r n x) in
         let m' = least_of r x (walk r n x) in
-        let om' : On r u p m' = elim (or_cases (r.same m' x) _ l.member) [ inl e ↦ subst (On r u p) (sym (laws.same_is m' x e)) ox | inr h ↦ on_walk n x m' ox h ] in
+        let om' : On r u p m' = elim (or_cases (r.same m' x) _ l.member)
+        [ inl e ↦ subst (On r u p) (sym (laws.same_is m' x e)) ox | inr h ↦ on_walk n x m' ox h ] in
         let le : r.at_most m' m ≡ true = l.below m (or_right (r.same m x) _ (walk_on n x m ring.small ox om)) in
         let same : m' ≡ m = laws.equal m' m (on_task m' om') (on_task m om) le (below m' om') in
         ap (circle_of r) same ∙ circle_is m om
@@ -241,7 +283,8 @@ module _ {T V E O : Type 0} (r : Rules T V E O) (laws : Lawful r) where
     asks_on x o = let a = ring.asks o.at o.below in (a.0, subst (λ y. (r.run y (known r)).answer ≡ Asks a.0) o.is a.1)
 
     -- what leads to a ring has the ring's error for its blame
-    pub blame_ring : (d : ℕ) (t m : T) → d ≤ length r.tasks → follow r d t ≡ u → On r u p m → ((z : T) → On r u p z → r.at_most m z ≡ true) → blame r t ≡ Circle (walk r p m)
+    pub blame_ring : (d : ℕ) (t m : T) → d ≤ length r.tasks → follow r d t ≡ u → On r u p m →
+        ((z : T) → On r u p z → r.at_most m z ≡ true) → blame r t ≡ Circle (walk r p m)
     blame_ring d t m le f om below =
         let n = length r.tasks in
         let y = follow r (n - d) u in

@@ -1,12 +1,17 @@
 -- A load, step by step: the tasks that are open, each asking for the next, over a table that grows.
-use Rattle.std.proofs.Common.{◌≡◌, ℕ, zero, suc, ◌+◌, ◌-◌, ◌≤◌, ◌<◌, List, [], ◌∷◌, ◌++◌, length, Option, Some, None, Bool, true, false, ◌⊎◌, inl, inr, refl, sym, ap, ◌∙◌, subst, subst₂, ap₂, arith, take, drop, get_or, length-append}
+use Rattle.std.proofs.Common.{◌≡◌, ℕ, zero, suc, ◌+◌, ◌-◌, ◌≤◌, ◌<◌, List, [], ◌∷◌, ◌++◌, length, Option, Some, None}
+use Rattle.std.proofs.Common.{Bool, true, false, ◌⊎◌, inl, inr, refl, sym, ap, ◌∙◌, subst, subst₂, ap₂, arith, take}
+use Rattle.std.proofs.Common.{drop, get_or, length-append}
 use Rattle.std.specs.List.{AllByRecursion, IsDistinct}
 use Rattle.std.specs.Cmp.{IsEquivalence}
 use Rattle.std.proofs.lemmas.Map.Made.{length-le_from_is_member}
 use Rattle.std.proofs.lemmas.Bool.{false≢true, or_from, or_cases, or_parts}
 use Rattle.by_need.proofs.Rounds.{Part-trans, lacks}
-use Rattle.by_need.proofs.Tables.{Chain, NoneKnown, first_or, asks_task, asks_needs, done_known, raised_known, raised_lost, otherwise_known, otherwise_lost, chain_lost, ring_lost, chain_grow, chain_push, chain_pop, chain_front, chain_back}
-use Rattle.by_need.proofs.Blames.{Ring, in_walk, blame_raised, blame_otherwise, blame_ring, chain_follow, chain_walk, chain_asks, walk_add, drop-walk, take-walk, get_or-walk, follow_add}
+use Rattle.by_need.proofs.Tables.{Chain, NoneKnown, first_or, asks_task, asks_needs, done_known, raised_known}
+use Rattle.by_need.proofs.Tables.{raised_lost, otherwise_known, otherwise_lost, chain_lost, ring_lost, chain_grow}
+use Rattle.by_need.proofs.Tables.{chain_push, chain_pop, chain_front, chain_back}
+use Rattle.by_need.proofs.Blames.{Ring, in_walk, blame_raised, blame_otherwise, blame_ring, chain_follow, chain_walk}
+use Rattle.by_need.proofs.Blames.{chain_asks, walk_add, drop-walk, take-walk, get_or-walk, follow_add}
 use Rattle.by_need.specs.Asking.{Done, Raised, Asks, Otherwise}
 use Rattle.by_need.specs.Rounds.{Rules, Part, Needs, is_in, is_task, known}
 use Rattle.by_need.specs.Blame.{Fault, Circle, Ended, next, follow, walk, blame}
@@ -19,16 +24,20 @@ module _ {T V E O : Type 0} (r : Rules T V E O) (laws : Lawful r) where
   differ a b e = at (r.same b a) refl
     where
       at : (c : Bool) → r.same b a ≡ c → r.same b a ≡ false
-      at true f = absurd (false≢true (sym e ∙ subst (λ x. r.same a x ≡ true) (sym (laws.same_is b a f)) (laws.same_self a)))
+      at true f = absurd (false≢true
+          (sym e ∙ subst (λ x. r.same a x ≡ true) (sym (laws.same_is b a f)) (laws.same_self a)))
       at false f = f
 
-  pub not_in_append : (x : T) (ts us : List T) → is_in r x ts ≡ false → is_in r x us ≡ false → is_in r x (ts ++ us) ≡ false
+  pub not_in_append : (x : T) (ts us : List T) → is_in r x ts ≡ false → is_in r x us ≡ false →
+      is_in r x (ts ++ us) ≡ false
   not_in_append x [] us h k = k
-  not_in_append x (t ∷ ts) us h k = let p = or_parts (r.same x t) _ h in or_from (r.same x t) _ p.0 (not_in_append x ts us p.1 k)
+  not_in_append x (t ∷ ts) us h k = let p = or_parts (r.same x t) _ h in
+      or_from (r.same x t) _ p.0 (not_in_append x ts us p.1 k)
 
   not_in_front : (x : T) (ts us : List T) → is_in r x (ts ++ us) ≡ false → is_in r x ts ≡ false
   not_in_front x [] us h = refl
-  not_in_front x (t ∷ ts) us h = let p = or_parts (r.same x t) _ h in or_from (r.same x t) _ p.0 (not_in_front x ts us p.1)
+  not_in_front x (t ∷ ts) us h = let p = or_parts (r.same x t) _ h in
+      or_from (r.same x t) _ p.0 (not_in_front x ts us p.1)
 
   not_in_back : (x : T) (ts us : List T) → is_in r x (ts ++ us) ≡ false → is_in r x us ≡ false
   not_in_back x [] us h = h
@@ -59,24 +68,29 @@ module _ {T V E O : Type 0} (r : Rules T V E O) (laws : Lawful r) where
   first_push [] t u = refl
   first_push (x ∷ ts) t u = refl
 
-  pub chain_tasks : (ts : List T) (t : T) (K : T → Option V) → Part K (known r) → Chain r K ts t → is_task r (first_or t ts) ≡ true → AllTasks r (ts ++ t ∷ [])
+  pub chain_tasks : (ts : List T) (t : T) (K : T → Option V) → Part K (known r) → Chain r K ts t →
+      is_task r (first_or t ts) ≡ true → AllTasks r (ts ++ t ∷ [])
   chain_tasks [] t K p c h = (h, tt)
   chain_tasks (x ∷ ts) t K p c h = (h, chain_tasks ts t K p c.1 (asks_task r laws x K (first_or t ts) p h c.0))
 
-  chain_last_task : (ts : List T) (t : T) (K : T → Option V) → Part K (known r) → Chain r K ts t → is_task r (first_or t ts) ≡ true → is_task r t ≡ true
+  chain_last_task : (ts : List T) (t : T) (K : T → Option V) → Part K (known r) → Chain r K ts t →
+      is_task r (first_or t ts) ≡ true → is_task r t ≡ true
   chain_last_task [] t K p c h = h
   chain_last_task (x ∷ ts) t K p c h = chain_last_task ts t K p c.1 (asks_task r laws x K (first_or t ts) p h c.0)
 
-  chain_needs : (s : T) (ts : List T) (t : T) (K : T → Option V) → Part K (known r) → Needs r s (first_or t ts) → Chain r K ts t → Needs r s t
+  chain_needs : (s : T) (ts : List T) (t : T) (K : T → Option V) → Part K (known r) → Needs r s (first_or t ts) →
+      Chain r K ts t → Needs r s t
   chain_needs s [] t K p n c = n
   chain_needs s (x ∷ ts) t K p n c = chain_needs s ts t K p (asks_needs r laws s x K (first_or t ts) p n c.0) c.1
 
   -- what is known of the tasks of a chain over K
-  pub chain_none : (ts : List T) (t : T) (K : T → Option V) → K (first_or t ts) ≡ None → Chain r K ts t → NoneKnown K ts × (K t ≡ None)
+  pub chain_none : (ts : List T) (t : T) (K : T → Option V) → K (first_or t ts) ≡ None → Chain r K ts t →
+      NoneKnown K ts × (K t ≡ None)
   chain_none [] t K n c = (tt, n)
   chain_none (x ∷ ts) t K n c = let i = chain_none ts t K (lacks r laws x K (first_or t ts) c.0) c.1 in ((n, i.0), i.1)
 
-  pub none_kept : (ts : List T) (K L : T → Option V) (t : T) (v : V) → Defines r K t v L → is_in r t ts ≡ false → NoneKnown K ts → NoneKnown L ts
+  pub none_kept : (ts : List T) (K L : T → Option V) (t : T) (v : V) → Defines r K t v L → is_in r t ts ≡ false →
+      NoneKnown K ts → NoneKnown L ts
   none_kept [] K L t v d h n = tt
   none_kept (x ∷ ts) K L t v d h n =
       let p = or_parts (r.same t x) _ h in
@@ -103,7 +117,8 @@ module _ {T V E O : Type 0} (r : Rules T V E O) (laws : Lawful r) where
   }
     where
       at : (x y : T) (b : Bool) → r.same x y ≡ b → r.same x y ≡ r.same y x
-      at x y true e = let i = laws.same_is x y e in subst (λ w. r.same x y ≡ r.same w x) i (subst (λ w. r.same x w ≡ r.same x x) i refl)
+      at x y true e = let i = laws.same_is x y e in
+          subst (λ w. r.same x y ≡ r.same w x) i (subst (λ w. r.same x w ≡ r.same x x) i refl)
       at x y false e = e ∙ sym (differ x y e)
 
   apart_distinct : (ts : List T) → Apart r ts → IsDistinct r.same ts
@@ -112,17 +127,22 @@ module _ {T V E O : Type 0} (r : Rules T V E O) (laws : Lawful r) where
   apart_distinct (t ∷ ts) a = (each ts t a.0, apart_distinct ts a.1)
     where
       each : (us : List T) (t : T) → is_in r t us ≡ false → AllByRecursion (λ u. r.same t u ≡ false) us
-      each us t h = elim us as (λ us. is_in r t us ≡ false → AllByRecursion (λ u. r.same t u ≡ false) us) [ [] ↦ λ h. tt | ◌∷◌ x (us → ih) ↦ λ h. let p = or_parts (r.same t x) _ h in (p.0, ih p.1) ] h
+      each us t h = elim us as (λ us. is_in r t us ≡ false → AllByRecursion (λ u. r.same t u ≡ false) us)
+          [ [] ↦ λ h. tt | ◌∷◌ x (us → ih) ↦ λ h. let p = or_parts (r.same t x) _ h in (p.0, ih p.1) ] h
 
   tasks_each : (ts : List T) → AllTasks r ts → (t : T) → is_in r t ts ≡ true → is_task r t ≡ true
   tasks_each [] a t h = absurd (false≢true h)
   tasks_each (x ∷ ts) a t h =
-      elim (or_cases (r.same t x) _ h) [ inl e ↦ subst (λ y. is_task r y ≡ true) (sym (laws.same_is t x e)) a.0 | inr e ↦ tasks_each ts a.1 t e ]
+      elim (or_cases (r.same t x) _ h) [
+        | inl e ↦ subst (λ y. is_task r y ≡ true) (sym (laws.same_is t x e)) a.0
+        | inr e ↦ tasks_each ts a.1 t e
+      ]
 
   pub few : (ts : List T) → Apart r ts → AllTasks r ts → length ts ≤ length r.tasks
   few ts a h = length-le_from_is_member equivalence ts r.tasks (apart_distinct ts a) (tasks_each ts h)
 
-  pub defines_part : (K L : T → Option V) (t : T) (v : V) → Part K (known r) → known r t ≡ Some v → Defines r K t v L → Part L (known r)
+  pub defines_part : (K L : T → Option V) (t : T) (v : V) → Part K (known r) → known r t ≡ Some v →
+      Defines r K t v L → Part L (known r)
   defines_part K L t v p k d = record { keeps = λ u w h. at u w h (r.same u t) refl }
     where
       at : (u : T) (w : V) → L u ≡ Some w → (b : Bool) → r.same u t ≡ b → known r u ≡ Some w
@@ -149,7 +169,8 @@ module _ {T V E O : Type 0} (r : Rules T V E O) (laws : Lawful r) where
     pub open_needed : (K : T → Option V) (ts : List T) (t : T) → Loading r task K ts t → Needs r task t
     open_needed K ts t l = chain_needs task ts t K l.part (subst (Needs r task) (sym l.start) Needs.itself) l.chain
 
-    pub pushes : (K : T → Option V) (ts : List T) (t u : T) → Loading r task K ts t → (r.run t K).answer ≡ Asks u → is_in r u (ts ++ t ∷ []) ≡ false → Loading r task K (ts ++ t ∷ []) u
+    pub pushes : (K : T → Option V) (ts : List T) (t u : T) → Loading r task K ts t → (r.run t K).answer ≡ Asks u →
+        is_in r u (ts ++ t ∷ []) ≡ false → Loading r task K (ts ++ t ∷ []) u
     pushes K ts t u l e h = record {
       part = l.part;
       chain = chain_push r laws ts K t u l.chain e;
@@ -159,7 +180,8 @@ module _ {T V E O : Type 0} (r : Rules T V E O) (laws : Lawful r) where
     }
 
     -- the value of the last one is defined, and the one before it goes on
-    pub pops : (K L : T → Option V) (ts : List T) (s t : T) (v : V) → Loading r task K (ts ++ s ∷ []) t → (r.run t K).answer ≡ Done v → Defines r K t v L → Loading r task L ts s
+    pub pops : (K L : T → Option V) (ts : List T) (s t : T) (v : V) → Loading r task K (ts ++ s ∷ []) t →
+        (r.run t K).answer ≡ Done v → Defines r K t v L → Loading r task L ts s
     pops K L ts s t v l e d =
         let n = open_none K (ts ++ s ∷ []) t l in
         let k = done_known r laws t K v l.part (open_task K (ts ++ s ∷ []) t l) e in
@@ -169,13 +191,15 @@ module _ {T V E O : Type 0} (r : Rules T V E O) (laws : Lawful r) where
         let first : first_or s ts ≡ task = sym (first_push ts s t) ∙ l.start in
         record {
           part = defines_part K L t v l.part k d;
-          chain = chain_grow r laws ts K L s grows (none_front ts s L none) (none_last ts s L none) (chain_pop r laws ts K s t l.chain);
+          chain = chain_grow r laws ts K L s grows (none_front ts s L none) (none_last ts s L none)
+              (chain_pop r laws ts K s t l.chain);
           start = first;
           fresh = ap L (sym first) ∙ none_first ts s L none;
           apart = apart_front (ts ++ s ∷ []) (t ∷ []) l.apart;
         }
 
-    pub gains_more : (K J L : T → Option V) (ts : List T) (t : T) (v : V) → Gains r task K J → Loading r task J ts t → Defines r J t v L → Gains r task K L
+    pub gains_more : (K J L : T → Option V) (ts : List T) (t : T) (v : V) → Gains r task K J →
+        Loading r task J ts t → Defines r J t v L → Gains r task K L
     gains_more K J L ts t v g l d = record {
       keeps = Part-trans g.keeps (defines_grows J L t v (open_none J ts t l).1 d);
       needed = λ u w h. at u w h (r.same u t) refl;
@@ -186,36 +210,53 @@ module _ {T V E O : Type 0} (r : Rules T V E O) (laws : Lawful r) where
         at u w h false e = g.needed u w (sym (d.old u e) ∙ h)
 
     -- the last task is the one that was wanted
-    pub ends_done : (K L : T → Option V) (t : T) (v : V) → Loading r task K [] t → (r.run t K).answer ≡ Done v → Defines r K t v L → Part L (known r) × (L task ≡ Some v) × (known r task ≡ Some v)
+    pub ends_done : (K L : T → Option V) (t : T) (v : V) → Loading r task K [] t → (r.run t K).answer ≡ Done v →
+        Defines r K t v L → Part L (known r) × (L task ≡ Some v) × (known r task ≡ Some v)
     ends_done K L t v l e d =
         let k = done_known r laws t K v l.part (open_task K [] t l) e in
         (defines_part K L t v l.part k d, ap L (sym l.start) ∙ d.new, ap (known r) (sym l.start) ∙ k)
 
-    pub open_few : (K : T → Option V) (ts : List T) (t : T) → Loading r task K ts t → length (ts ++ t ∷ []) ≤ length r.tasks
+    pub open_few : (K : T → Option V) (ts : List T) (t : T) → Loading r task K ts t →
+        length (ts ++ t ∷ []) ≤ length r.tasks
     open_few K ts t l = few (ts ++ t ∷ []) l.apart (chain_tasks ts t K l.part l.chain (ap (is_task r) l.start ∙ is))
 
-    pub ends_raised : (K : T → Option V) (ts : List T) (t : T) (e : E) → Loading r task K ts t → (r.run t K).answer ≡ Raised e → (known r task ≡ None) × (blame r task ≡ Fault e)
+    pub ends_raised : (K : T → Option V) (ts : List T) (t : T) (e : E) → Loading r task K ts t →
+        (r.run t K).answer ≡ Raised e → (known r task ≡ None) × (blame r task ≡ Fault e)
     ends_raised K ts t e l h =
         let h' = raised_known r laws t K e l.part h in
         let c = chain_lost r laws ts K t l.part (raised_lost r laws t e h') l.chain in
-        let n = open_few K ts t l in
-        (ap (known r) (sym l.start) ∙ c.1, ap (blame r) (sym l.start) ∙ blame_raised r (length ts) (first_or t ts) t e (omega (arith, n, length-append ts (t ∷ []))) (chain_follow r ts t c.0) h')
+        let n = open_few K ts t l in (
+          ap (known r) (sym l.start) ∙ c.1,
+          ap (blame r) (sym l.start)
+              ∙ blame_raised r (length ts) (first_or t ts) t e (omega (arith, n, length-append ts (t ∷ [])))
+              (chain_follow r ts t c.0) h',
+        )
 
-    pub ends_otherwise : (K : T → Option V) (ts : List T) (t : T) (o : O) → Loading r task K ts t → (r.run t K).answer ≡ Otherwise o → (known r task ≡ None) × (blame r task ≡ Ended o)
+    pub ends_otherwise : (K : T → Option V) (ts : List T) (t : T) (o : O) → Loading r task K ts t →
+        (r.run t K).answer ≡ Otherwise o → (known r task ≡ None) × (blame r task ≡ Ended o)
     ends_otherwise K ts t o l h =
         let h' = otherwise_known r laws t K o l.part h in
         let c = chain_lost r laws ts K t l.part (otherwise_lost r laws t o h') l.chain in
-        let n = open_few K ts t l in
-        (ap (known r) (sym l.start) ∙ c.1, ap (blame r) (sym l.start) ∙ blame_otherwise r (length ts) (first_or t ts) t o (omega (arith, n, length-append ts (t ∷ []))) (chain_follow r ts t c.0) h')
+        let n = open_few K ts t l in (
+          ap (known r) (sym l.start) ∙ c.1,
+          ap (blame r) (sym l.start)
+              ∙ blame_otherwise r (length ts) (first_or t ts) t o (omega (arith, n, length-append ts (t ∷ [])))
+              (chain_follow r ts t c.0) h',
+        )
 
-    pub ends_ring : (K : T → Option V) (ts : List T) (t u : T) (front mid : List T) (i : ℕ) → Loading r task K ts t → (r.run t K).answer ≡ Asks u → ts ++ t ∷ [] ≡ front ++ u ∷ mid → i < length (u ∷ mid) → ((k : ℕ) → k < length (u ∷ mid) → r.at_most (get_or (u ∷ mid) i u) (get_or (u ∷ mid) k u) ≡ true) → (known r task ≡ None) × (blame r task ≡ Circle (drop i (u ∷ mid) ++ take i (u ∷ mid)))
+    pub ends_ring : (K : T → Option V) (ts : List T) (t u : T) (front mid : List T) (i : ℕ) → Loading r task K ts t →
+        (r.run t K).answer ≡ Asks u → ts ++ t ∷ [] ≡ front ++ u ∷ mid → i < length (u ∷ mid) →
+        ((k : ℕ) → k < length (u ∷ mid) → r.at_most (get_or (u ∷ mid) i u) (get_or (u ∷ mid) k u) ≡ true) →
+        (known r task ≡ None) × (blame r task ≡ Circle (drop i (u ∷ mid) ++ take i (u ∷ mid)))
     ends_ring K ts t u front mid i l e split lt least =
         let ring = u ∷ mid in
         let p = length ring in
-        let c : Chain r K (front ++ ring) u = subst (λ us. Chain r K us u) split (chain_push r laws ts K t u l.chain e) in
+        let c : Chain r K (front ++ ring) u = subst (λ us. Chain r K us u) split
+        (chain_push r laws ts K t u l.chain e) in
         let lost = ring_lost r laws mid u K l.part (chain_back r laws front ring K u c) in
         let d = chain_lost r laws (front ++ ring) K u l.part lost c in
-        let n : length (front ++ ring) ≤ length r.tasks = subst (λ us. length us ≤ length r.tasks) split (open_few K ts t l) in
+        let n : length (front ++ ring) ≤ length r.tasks = subst (λ us. length us ≤ length r.tasks) split
+        (open_few K ts t l) in
         let apart : Apart r ring = apart_back front ring (subst (Apart r) split l.apart) in
         let round : Chain r (known r) ring u = chain_back r laws front ring (known r) u d.0 in
         let walks : walk r p u ≡ ring = chain_walk r ring u round in
@@ -230,13 +271,25 @@ module _ {T V E O : Type 0} (r : Rules T V E O) (laws : Lawful r) where
           asks = chain_asks r ring u round;
         } in
         let m = follow r i u in
-        let reads : (k : ℕ) → k < p → get_or ring k u ≡ follow r k u = λ k b. ap (λ us. get_or us k u) (sym walks) ∙ get_or-walk r k p u u b in
-        let b = blame_ring r laws u p is_ring (length front) (first_or u front) m (omega (arith, le)) (chain_follow r front u (chain_front r laws front mid (known r) u u d.0)) (record { at = i; below = lt; is = refl }) (λ z o. subst₂ (λ x y. r.at_most x y ≡ true) (reads i lt) (reads o.at o.below ∙ o.is) (least o.at o.below)) in
+        let reads : (k : ℕ) → k < p → get_or ring k u ≡ follow r k u = λ k b. ap (λ us. get_or us k u) (sym walks)
+        ∙ get_or-walk r k p u u b in
+        let b = blame_ring r laws u p is_ring (length front) (first_or u front) m (omega (arith, le))
+        (chain_follow r front u (chain_front r laws front mid (known r) u u d.0))
+        (record { at = i; below = lt; is = refl })
+        (λ z o. subst₂ (λ x y. r.at_most x y ≡ true) (reads i lt) (reads o.at o.below ∙ o.is)
+        (least o.at o.below)) in
         let home : follow r (p - i) m ≡ u = sym (follow_add r i (p - i) p (omega (arith, lt)) u) ∙ is_ring.back in
-        let turned : drop i ring ++ take i ring ≡ walk r p m = ap (λ us. drop i us ++ take i us) (sym walks) ∙ ap₂ (λ x y. x ++ y) (drop-walk r i p u (omega (arith, lt))) (take-walk r i p u (omega (arith, lt))) ∙ ap (λ x. walk r (p - i) m ++ walk r i x) (sym home) ∙ sym (walk_add r (p - i) i p (omega (arith, lt)) m) in
-        (ap (known r) (sym first) ∙ d.1, ap (blame r) (sym (first_front front u mid ∙ first)) ∙ b ∙ ap Circle (sym turned))
+        let turned : drop i ring ++ take i ring ≡ walk r p m = ap (λ us. drop i us ++ take i us) (sym walks)
+        ∙ ap₂ (λ x y. x ++ y) (drop-walk r i p u (omega (arith, lt))) (take-walk r i p u (omega (arith, lt)))
+        ∙ ap (λ x. walk r (p - i) m ++ walk r i x) (sym home)
+        ∙ sym (walk_add r (p - i) i p (omega (arith, lt)) m) in (
+          ap (known r) (sym first) ∙ d.1,
+          ap (blame r) (sym (first_front front u mid ∙ first)) ∙ b
+              ∙ ap Circle (sym turned),
+        )
       where
-        never : (mid : List T) (u : T) → is_in r u mid ≡ false → walk r (length (u ∷ mid)) u ≡ u ∷ mid → (j : ℕ) → 0 < j → j < length (u ∷ mid) → follow r j u ≡ u → ⊥
+        never : (mid : List T) (u : T) → is_in r u mid ≡ false → walk r (length (u ∷ mid)) u ≡ u ∷ mid → (j : ℕ) →
+            0 < j → j < length (u ∷ mid) → follow r j u ≡ u → ⊥
         never mid u out w zero pos below f = omega (arith, pos)
         never mid u out w (suc j) pos below f =
             let w' : walk r (length mid) (next r u) ≡ mid = cc w in

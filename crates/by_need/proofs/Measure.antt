@@ -1,5 +1,6 @@
 -- Each step of a load leaves less to do.
-use Rattle.std.proofs.Common.{◌≡◌, ℕ, ◌≤◌, ◌<◌, List, [], ◌∷◌, ◌++◌, Option, Some, None, Bool, true, false, inl, inr, refl, ap, ◌∙◌, subst, arith}
+use Rattle.std.proofs.Common.{◌≡◌, ℕ, ◌≤◌, ◌<◌, List, [], ◌∷◌, ◌++◌, Option, Some, None, Bool, true, false, inl, inr}
+use Rattle.std.proofs.Common.{refl, ap, ◌∙◌, subst, arith}
 use Rattle.std.proofs.lemmas.Bool.{false≢true, or_from, or_cases, or_left}
 use Rattle.by_need.proofs.Tables.{in_append_left, in_append_right}
 use Rattle.by_need.proofs.Loads.{not_in_append}
@@ -21,17 +22,23 @@ module _ {T V E O : Type 0} (r : Rules T V E O) (laws : Lawful r) where
         | inr e ↦ omega (arith, total-member f ts u e)
       ]
 
-  pub total-lt : (f g : T → ℕ) → ((t : T) → f t ≤ g t) → (ts : List T) (u : T) → is_in r u ts ≡ true → f u < g u → total f ts < total g ts
+  pub total-lt : (f g : T → ℕ) → ((t : T) → f t ≤ g t) → (ts : List T) (u : T) → is_in r u ts ≡ true → f u < g u →
+      total f ts < total g ts
   total-lt f g le [] u h lt = absurd (false≢true h)
   total-lt f g le (t ∷ ts) u h lt =
       elim (or_cases (r.same u t) _ h) [
-        | inl e ↦ let here : f t < g t = subst (λ x. f x < g x) (laws.same_is u t e) lt in omega (arith, here, total-le f g le ts)
+        | inl e ↦ let here : f t < g t = subst (λ x. f x < g x) (laws.same_is u t e) lt in
+            omega (arith, here, total-le f g le ts)
         | inr e ↦ omega (arith, le t, total-lt f g le ts u e lt)
       ]
 
-  pub left_pushes : (K : T → Option V) (ts : List T) (u : T) → K u ≡ None → is_task r u ≡ true → is_in r u ts ≡ false → left r K (ts ++ u ∷ []) < left r K ts
+  pub left_pushes : (K : T → Option V) (ts : List T) (u : T) → K u ≡ None → is_task r u ≡ true →
+      is_in r u ts ≡ false → left r K (ts ++ u ∷ []) < left r K ts
   left_pushes K ts u n h out =
-      total-lt (λ t. weight (K t) (is_in r t (ts ++ u ∷ []))) (λ t. weight (K t) (is_in r t ts)) (λ t. at t (K t) (is_in r t ts) refl) r.tasks u h (rw (n, out, in_append_right r laws u ts (u ∷ []) (or_left (r.same u u) false (laws.same_self u))) (omega arith))
+      total-lt (λ t. weight (K t) (is_in r t (ts ++ u ∷ []))) (λ t. weight (K t) (is_in r t ts))
+      (λ t. at t (K t) (is_in r t ts) refl) r.tasks u h
+      (rw (n, out, in_append_right r laws u ts (u ∷ []) (or_left (r.same u u) false (laws.same_self u)))
+      (omega arith))
     where
       at : (t : T) (o : Option V) (b : Bool) → is_in r t ts ≡ b → weight o (is_in r t (ts ++ u ∷ [])) ≤ weight o b
       at t (Some v) b e = omega arith
@@ -42,9 +49,13 @@ module _ {T V E O : Type 0} (r : Rules T V E O) (laws : Lawful r) where
           any true = omega arith
           any false = omega arith
 
-  pub left_pops : (K L : T → Option V) (ts : List T) (t : T) (v : V) → K t ≡ None → is_task r t ≡ true → is_in r t ts ≡ false → Defines r K t v L → left r L ts < left r K (ts ++ t ∷ [])
+  pub left_pops : (K L : T → Option V) (ts : List T) (t : T) (v : V) → K t ≡ None → is_task r t ≡ true →
+      is_in r t ts ≡ false → Defines r K t v L → left r L ts < left r K (ts ++ t ∷ [])
   left_pops K L ts t v n h out d =
-      total-lt (λ x. weight (L x) (is_in r x ts)) (λ x. weight (K x) (is_in r x (ts ++ t ∷ []))) (λ x. at x (r.same x t) refl) r.tasks t h (rw (n, d.new, in_append_right r laws t ts (t ∷ []) (or_left (r.same t t) false (laws.same_self t))) (omega arith))
+      total-lt (λ x. weight (L x) (is_in r x ts)) (λ x. weight (K x) (is_in r x (ts ++ t ∷ [])))
+      (λ x. at x (r.same x t) refl) r.tasks t h
+      (rw (n, d.new, in_append_right r laws t ts (t ∷ []) (or_left (r.same t t) false (laws.same_self t)))
+      (omega arith))
     where
       at : (x : T) (b : Bool) → r.same x t ≡ b → weight (L x) (is_in r x ts) ≤ weight (K x) (is_in r x (ts ++ t ∷ []))
       at x true e = rw (ap L (laws.same_is x t e) ∙ d.new) (omega arith)

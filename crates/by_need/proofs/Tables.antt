@@ -1,8 +1,10 @@
 -- What a run over a part of what is known tells.
-use Rattle.std.proofs.Common.{◌≡◌, ℕ, zero, suc, ◌≤◌, ◌<◌, List, [], ◌∷◌, ◌++◌, length, Option, Some, None, true, false, is_some, inl, inr, sym, ap, ◌∙◌, subst, arith}
+use Rattle.std.proofs.Common.{◌≡◌, ℕ, zero, suc, ◌≤◌, ◌<◌, List, [], ◌∷◌, ◌++◌, length, Option, Some, None, true, false}
+use Rattle.std.proofs.Common.{is_some, inl, inr, sym, ap, ◌∙◌, subst, arith}
 use Rattle.std.proofs.lemmas.Bool.{false≢true, or_cases, or_right, or_left}
 use Rattle.by_need.proofs.Counts.{some_value, some_is, none_or_some}
-use Rattle.by_need.proofs.Rounds.{round-le, known_gives, known_takes, origin, grow_done, grow_raised, grow_otherwise, grow_asks}
+use Rattle.by_need.proofs.Rounds.{round-le, known_gives, known_takes, origin, grow_done, grow_raised, grow_otherwise}
+use Rattle.by_need.proofs.Rounds.{grow_asks}
 use Rattle.by_need.specs.Asking.{Answer, Done, Raised, Asks, Otherwise}
 use Rattle.by_need.specs.Rounds.{Rules, Part, Needs, is_in, is_task, round, known}
 use Rattle.by_need.specs.Laws.{Lawful, EndsWith}
@@ -19,10 +21,14 @@ module _ {T V E O : Type 0} (r : Rules T V E O) (laws : Lawful r) where
   pub in_append_left : (t : T) (ts us : List T) → is_in r t ts ≡ true → is_in r t (ts ++ us) ≡ true
   in_append_left t [] us h = absurd (false≢true h)
   in_append_left t (x ∷ ts) us h =
-      elim (or_cases (r.same t x) (is_in r t ts) h) [ inl e ↦ or_left (r.same t x) _ e | inr e ↦ or_right (r.same t x) _ (in_append_left t ts us e) ]
+      elim (or_cases (r.same t x) (is_in r t ts) h) [
+        | inl e ↦ or_left (r.same t x) _ e
+        | inr e ↦ or_right (r.same t x) _ (in_append_left t ts us e)
+      ]
 
   -- the task that a run stops at is asked for by each run over more
-  pub asks_asked : (t : T) (K L : T → Option V) (u : T) → Part K L → (r.run t K).answer ≡ Asks u → is_in r u (r.run t L).asked ≡ true
+  pub asks_asked : (t : T) (K L : T → Option V) (u : T) → Part K L → (r.run t K).answer ≡ Asks u →
+      is_in r u (r.run t L).asked ≡ true
   asks_asked t K L u p e =
       let f = subst (EndsWith (r.run t K).asked) e (laws.last t K) in
       let m = laws.prefix t K L p in
@@ -31,41 +37,60 @@ module _ {T V E O : Type 0} (r : Rules T V E O) (laws : Lawful r) where
       rw m.1 (in_append_left u (r.run t K).asked m.0 at)
 
   -- what a task asks for over a part of all that is known is a task
-  pub asked_task : (t : T) (K : T → Option V) (u : T) → Part K (known r) → is_task r t ≡ true → is_in r u (r.run t K).asked ≡ true → is_task r u ≡ true
+  pub asked_task : (t : T) (K : T → Option V) (u : T) → Part K (known r) → is_task r t ≡ true →
+      is_in r u (r.run t K).asked ≡ true → is_task r u ≡ true
   asked_task t K u p h m =
       let q = laws.prefix t K (known r) p in
       laws.closed t u h (rw q.1 (in_append_left u (r.run t K).asked q.0 m))
 
-  pub asks_task : (t : T) (K : T → Option V) (u : T) → Part K (known r) → is_task r t ≡ true → (r.run t K).answer ≡ Asks u → is_task r u ≡ true
+  pub asks_task : (t : T) (K : T → Option V) (u : T) → Part K (known r) → is_task r t ≡ true →
+      (r.run t K).answer ≡ Asks u → is_task r u ≡ true
   asks_task t K u p h e = laws.closed t u h (asks_asked t K (known r) u p e)
 
-  pub asks_needs : (s t : T) (K : T → Option V) (u : T) → Part K (known r) → Needs r s t → (r.run t K).answer ≡ Asks u → Needs r s u
+  pub asks_needs : (s t : T) (K : T → Option V) (u : T) → Part K (known r) → Needs r s t →
+      (r.run t K).answer ≡ Asks u → Needs r s u
   asks_needs s t K u p n e = Needs.asked n (asks_asked t K (known r) u p e)
 
   -- a value that a run over a part gives is the known one
-  pub done_known : (t : T) (K : T → Option V) (v : V) → Part K (known r) → is_task r t ≡ true → (r.run t K).answer ≡ Done v → known r t ≡ Some v
+  pub done_known : (t : T) (K : T → Option V) (v : V) → Part K (known r) → is_task r t ≡ true →
+      (r.run t K).answer ≡ Done v → known r t ≡ Some v
   done_known t K v p h e = known_takes r laws t v h (ap (λ o. o.answer) (grow_done r laws t K (known r) v p e) ∙ e)
 
-  pub raised_known : (t : T) (K : T → Option V) (e : E) → Part K (known r) → (r.run t K).answer ≡ Raised e → (r.run t (known r)).answer ≡ Raised e
+  pub raised_known : (t : T) (K : T → Option V) (e : E) → Part K (known r) → (r.run t K).answer ≡ Raised e →
+      (r.run t (known r)).answer ≡ Raised e
   raised_known t K x p e = ap (λ o. o.answer) (grow_raised r laws t K (known r) x p e) ∙ e
 
-  pub otherwise_known : (t : T) (K : T → Option V) (o : O) → Part K (known r) → (r.run t K).answer ≡ Otherwise o → (r.run t (known r)).answer ≡ Otherwise o
+  pub otherwise_known : (t : T) (K : T → Option V) (o : O) → Part K (known r) → (r.run t K).answer ≡ Otherwise o →
+      (r.run t (known r)).answer ≡ Otherwise o
   otherwise_known t K o p e = ap (λ x. x.answer) (grow_otherwise r laws t K (known r) o p e) ∙ e
 
   pub otherwise_lost : (t : T) (o : O) → (r.run t (known r)).answer ≡ Otherwise o → known r t ≡ None
-  otherwise_lost t o e = elim (none_or_some (known r t)) [ inl n ↦ n | inr s ↦ let g = known_gives r laws t s.0 s.1 in absurd cc ]
+  otherwise_lost t o e = elim (none_or_some (known r t)) [
+    | inl n ↦ n
+    | inr s ↦ let g = known_gives r laws t s.0 s.1 in absurd cc
+  ]
 
   pub raised_lost : (t : T) (e : E) → (r.run t (known r)).answer ≡ Raised e → known r t ≡ None
-  raised_lost t x e = elim (none_or_some (known r t)) [ inl n ↦ n | inr s ↦ let g = known_gives r laws t s.0 s.1 in absurd cc ]
+  raised_lost t x e = elim (none_or_some (known r t)) [
+    | inl n ↦ n
+    | inr s ↦ let g = known_gives r laws t s.0 s.1 in
+        absurd cc
+  ]
 
   pub asks_lost : (t u : T) → (r.run t (known r)).answer ≡ Asks u → known r t ≡ None
-  asks_lost t u e = elim (none_or_some (known r t)) [ inl n ↦ n | inr s ↦ let g = known_gives r laws t s.0 s.1 in absurd cc ]
+  asks_lost t u e = elim (none_or_some (known r t)) [
+    | inl n ↦ n
+    | inr s ↦ let g = known_gives r laws t s.0 s.1 in
+        absurd cc
+  ]
 
-  pub done_has : (t : T) (K : T → Option V) (v : V) (u : T) → (r.run t K).answer ≡ Done v → is_in r u (r.run t K).asked ≡ true → is_some (K u) ≡ true
+  pub done_has : (t : T) (K : T → Option V) (v : V) (u : T) → (r.run t K).answer ≡ Done v →
+      is_in r u (r.run t K).asked ≡ true → is_some (K u) ≡ true
   done_has t K v u e m = elim (laws.asked_known t K u m) [ inl h ↦ h | inr h ↦ absurd cc ]
 
   -- what a known task asks for was known in an earlier round
-  pub asked_earlier : (n : ℕ) → n ≤ length r.tasks → (t : T) (v : V) (K : T → Option V) (u : T) → Part K (known r) → round r n t ≡ Some v → (r.run t K).answer ≡ Asks u → (m : ℕ) × (m < n) × (is_some (round r m u) ≡ true)
+  pub asked_earlier : (n : ℕ) → n ≤ length r.tasks → (t : T) (v : V) (K : T → Option V) (u : T) → Part K (known r) →
+      round r n t ≡ Some v → (r.run t K).answer ≡ Asks u → (m : ℕ) × (m < n) × (is_some (round r m u) ≡ true)
   asked_earlier zero le t v K u p h e = absurd cc
   asked_earlier (suc n) le t v K u p h e =
       elim (origin r laws n t v h) [
@@ -73,15 +98,18 @@ module _ {T V E O : Type 0} (r : Rules T V E O) (laws : Lawful r) where
         | inr w ↦
             let q : Part (round r n) (known r) = round-le r laws n (length r.tasks) (omega arith) in
             let a = asks_asked t K (known r) u p e in
-            let a' : is_in r u (r.run t (round r n)).asked ≡ true = subst (λ o. is_in r u o.asked ≡ true) (grow_done r laws t (round r n) (known r) v q w.1) a in
+            let a' : is_in r u (r.run t (round r n)).asked ≡ true = subst (λ o. is_in r u o.asked ≡ true)
+            (grow_done r laws t (round r n) (known r) v q w.1) a in
             (n, omega arith, done_has t (round r n) v u w.1 a')
       ]
 
   -- a task that asks for a lost one is lost, and asks for it to the end
-  pub lost_back : (t : T) (K : T → Option V) (u : T) → Part K (known r) → (r.run t K).answer ≡ Asks u → known r u ≡ None → (r.run t (known r)).answer ≡ Asks u
+  pub lost_back : (t : T) (K : T → Option V) (u : T) → Part K (known r) → (r.run t K).answer ≡ Asks u →
+      known r u ≡ None → (r.run t (known r)).answer ≡ Asks u
   lost_back t K u p e n = ap (λ o. o.answer) (grow_asks r laws t K (known r) u p e n) ∙ e
 
-  pub chain_lost : (ts : List T) (K : T → Option V) (u : T) → Part K (known r) → known r u ≡ None → Chain r K ts u → Chain r (known r) ts u × (known r (first_or u ts) ≡ None)
+  pub chain_lost : (ts : List T) (K : T → Option V) (u : T) → Part K (known r) → known r u ≡ None → Chain r K ts u →
+      Chain r (known r) ts u × (known r (first_or u ts) ≡ None)
   chain_lost [] K u p n c = (tt, n)
   chain_lost (t ∷ ts) K u p n c =
       let i = chain_lost ts K u p n c.1 in
@@ -89,7 +117,8 @@ module _ {T V E O : Type 0} (r : Rules T V E O) (laws : Lawful r) where
       ((a, i.0), asks_lost t _ a)
 
   -- along a chain of known tasks the rounds fall
-  chain_falls : (ts : List T) (t : T) (n : ℕ) → n ≤ length r.tasks → (K : T → Option V) (u : T) → Part K (known r) → Chain r K (t ∷ ts) u → is_some (round r n t) ≡ true → (m : ℕ) × (m < n) × (is_some (round r m u) ≡ true)
+  chain_falls : (ts : List T) (t : T) (n : ℕ) → n ≤ length r.tasks → (K : T → Option V) (u : T) → Part K (known r) →
+      Chain r K (t ∷ ts) u → is_some (round r n t) ≡ true → (m : ℕ) × (m < n) × (is_some (round r m u) ≡ true)
   chain_falls [] t n le K u p c h = let s = some_value _ h in asked_earlier n le t s.0 K u p s.1 c.0
   chain_falls (x ∷ ts) t n le K u p c h =
       let s = some_value _ h in
@@ -97,7 +126,8 @@ module _ {T V E O : Type 0} (r : Rules T V E O) (laws : Lawful r) where
       let i = chain_falls ts x a.0 (omega (arith, a.1)) K u p c.1 a.2 in
       (i.0, omega (arith, i.1, a.1), i.2)
 
-  no_ring : (k n : ℕ) → n < k → n ≤ length r.tasks → (ts : List T) (t : T) (K : T → Option V) → Part K (known r) → Chain r K (t ∷ ts) t → is_some (round r n t) ≡ true → ⊥
+  no_ring : (k n : ℕ) → n < k → n ≤ length r.tasks → (ts : List T) (t : T) (K : T → Option V) → Part K (known r) →
+      Chain r K (t ∷ ts) t → is_some (round r n t) ≡ true → ⊥
   no_ring zero n lt le ts t K p c h = omega (arith, lt)
   no_ring (suc k) n lt le ts t K p c h =
       let a = chain_falls ts t n le K t p c h in
@@ -106,15 +136,25 @@ module _ {T V E O : Type 0} (r : Rules T V E O) (laws : Lawful r) where
   -- tasks that ask for one another in a ring are lost
   pub ring_lost : (ts : List T) (t : T) (K : T → Option V) → Part K (known r) → Chain r K (t ∷ ts) t → known r t ≡ None
   ring_lost ts t K p c =
-      elim (none_or_some (known r t)) [ inl n ↦ n | inr s ↦ absurd (no_ring (suc (length r.tasks)) (length r.tasks) (omega arith) (omega arith) ts t K p c (some_is _ s.0 s.1)) ]
+      elim (none_or_some (known r t)) [
+        | inl n ↦ n
+        | inr s ↦ absurd (no_ring (suc (length r.tasks)) (length r.tasks) (omega arith) (omega arith) ts t K p c
+            (some_is _ s.0 s.1))
+      ]
 
   -- over a larger table that knows none of them a chain stays
-  pub chain_grow : (ts : List T) (K L : T → Option V) (u : T) → Part K L → NoneKnown L ts → L u ≡ None → Chain r K ts u → Chain r L ts u
+  pub chain_grow : (ts : List T) (K L : T → Option V) (u : T) → Part K L → NoneKnown L ts → L u ≡ None →
+      Chain r K ts u → Chain r L ts u
   chain_grow [] K L u p n m c = tt
   chain_grow (t ∷ []) K L u p n m c = (ap (λ o. o.answer) (grow_asks r laws t K L u p c.0 m) ∙ c.0, tt)
-  chain_grow (t ∷ x ∷ ts) K L u p n m c = (ap (λ o. o.answer) (grow_asks r laws t K L x p c.0 n.1.0) ∙ c.0, chain_grow (x ∷ ts) K L u p n.1 m c.1)
+  chain_grow (t ∷ x ∷ ts) K L u p n m c = (
+    ap (λ o. o.answer) (grow_asks r laws t K L x p c.0 n.1.0)
+        ∙ c.0,
+    chain_grow (x ∷ ts) K L u p n.1 m c.1,
+  )
 
-  pub chain_push : (ts : List T) (K : T → Option V) (t u : T) → Chain r K ts t → (r.run t K).answer ≡ Asks u → Chain r K (ts ++ t ∷ []) u
+  pub chain_push : (ts : List T) (K : T → Option V) (t u : T) → Chain r K ts t → (r.run t K).answer ≡ Asks u →
+      Chain r K (ts ++ t ∷ []) u
   chain_push [] K t u c e = (e, tt)
   chain_push (x ∷ []) K t u c e = (c.0, (e, tt))
   chain_push (x ∷ y ∷ ts) K t u c e = (c.0, chain_push (y ∷ ts) K t u c.1 e)
@@ -134,12 +174,16 @@ module _ {T V E O : Type 0} (r : Rules T V E O) (laws : Lawful r) where
   chain_back (x ∷ ts) us K z c = chain_back ts us K z c.1
 
   -- a request's run over a table: its end is the one over all that is known, and what it asked for is in the table
-  pub done_ends : (t : T) (K : T → Option V) (v : V) (u : T) → Part K (known r) → (r.run t K).answer ≡ Done v → is_in r u (r.run t (known r)).asked ≡ true → is_some (K u) ≡ true
-  done_ends t K v u p e m = done_has t K v u e (subst (λ o. is_in r u o.asked ≡ true) (grow_done r laws t K (known r) v p e) m)
+  pub done_ends : (t : T) (K : T → Option V) (v : V) (u : T) → Part K (known r) → (r.run t K).answer ≡ Done v →
+      is_in r u (r.run t (known r)).asked ≡ true → is_some (K u) ≡ true
+  done_ends t K v u p e m =
+      done_has t K v u e (subst (λ o. is_in r u o.asked ≡ true) (grow_done r laws t K (known r) v p e) m)
 
-  pub lost_ends : (t : T) (K : T → Option V) (w u : T) → Part K (known r) → (r.run t K).answer ≡ Asks w → known r w ≡ None → is_in r u (r.run t (known r)).asked ≡ true → is_some (known r u) ≡ true → is_some (K u) ≡ true
+  pub lost_ends : (t : T) (K : T → Option V) (w u : T) → Part K (known r) → (r.run t K).answer ≡ Asks w →
+      known r w ≡ None → is_in r u (r.run t (known r)).asked ≡ true → is_some (known r u) ≡ true → is_some (K u) ≡ true
   lost_ends t K w u p e n m k =
       elim (laws.asked_known t K u (subst (λ o. is_in r u o.asked ≡ true) (grow_asks r laws t K (known r) w p e n) m)) [
         | inl h ↦ h
-        | inr h ↦ let same : w ≡ u = asks_same e h in absurd (false≢true (sym (ap is_some (ap (known r) (sym same) ∙ n)) ∙ k))
+        | inr h ↦ let same : w ≡ u = asks_same e h in
+            absurd (false≢true (sym (ap is_some (ap (known r) (sym same) ∙ n)) ∙ k))
       ]

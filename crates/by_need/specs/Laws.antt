@@ -31,8 +31,10 @@ pub record Lawful {T V E O : Type 0} (r : Rules T V E O) : Type 0 where
   pub chain : (a b c : T) → r.at_most a b ≡ true → r.at_most b c ≡ true → r.at_most a c ≡ true
   pub equal : (a b : T) → is_task r a ≡ true → is_task r b ≡ true → r.at_most a b ≡ true → r.at_most b a ≡ true → a ≡ b
   pub grow : (t : T) (K L : T → Option V) → Part K L → Waits L (r.run t K).answer → r.run t L ≡ r.run t K
-  pub prefix : (t : T) (K L : T → Option V) → Part K L → (rest : List T) × ((r.run t L).asked ≡ (r.run t K).asked ++ rest)
+  pub prefix : (t : T) (K L : T → Option V) → Part K L → (rest : List T)
+      × ((r.run t L).asked ≡ (r.run t K).asked ++ rest)
   pub last : (t : T) (K : T → Option V) → EndsWith (r.run t K).asked (r.run t K).answer
   pub lacks : (t : T) (K : T → Option V) → Waits K (r.run t K).answer
-  pub asked_known : (t : T) (K : T → Option V) (u : T) → is_in r u (r.run t K).asked ≡ true → (is_some (K u) ≡ true) ⊎ ((r.run t K).answer ≡ Asks u)
+  pub asked_known : (t : T) (K : T → Option V) (u : T) → is_in r u (r.run t K).asked ≡ true → (is_some (K u) ≡ true)
+      ⊎ ((r.run t K).answer ≡ Asks u)
   pub closed : Closed r

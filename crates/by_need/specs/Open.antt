@@ -29,7 +29,8 @@ AllTasks r [] = Unit {0}
 AllTasks r (t ∷ ts) = (is_task r t ≡ true) × AllTasks r ts
 
 -- Over the table K the wanted task waits for t along ts.
-pub record Loading {T V E O : Type 0} (r : Rules T V E O) (wanted : T) (K : T → Option V) (ts : List T) (t : T) : Type 0 where
+pub record Loading {T V E O : Type 0} (r : Rules T V E O) (wanted : T) (K : T → Option V) (ts : List T)
+    (t : T) : Type 0 where
   pub part : Part K (known r)
   pub chain : Chain r K ts t
   pub start : first_or t ts ≡ wanted

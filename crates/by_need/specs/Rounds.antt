@@ -11,7 +11,8 @@ pub record Rules (T V E O : Type 0) : Type 0 where
   pub run : T → (T → Option V) → Outcome T V E O
 
 -- Tasks whose runs are trees of questions.
-abbrev pub rules_by : {T V E O : Type 0} → (T → T → Bool) → (T → T → Bool) → List T → (T → Computation T V E O) → Rules T V E O
+abbrev pub rules_by : {T V E O : Type 0} → (T → T → Bool) → (T → T → Bool) → List T → (T → Computation T V E O) →
+    Rules T V E O
 rules_by same at_most tasks meaning = record {
   same = same;
   at_most = at_most;

@@ -9,30 +9,36 @@ use crate::Theory;
 
 /// An answer stays, with the tasks asked for, while what it waits for is not known.
 pub fn run_grows<Y: Theory>(theory: &Y)
-    ensures { let r = Y.rules theory.now in (t : Y.Task) (K L : Y.Task → Option Y.Value) → Part K L → Waits L (r.run t K).answer → r.run t L ≡ r.run t K }
+    ensures { let r = Y.rules theory.now in (t : Y.Task) (K L : Y.Task → Option Y.Value) → Part K L →
+        Waits L (r.run t K).answer → r.run t L ≡ r.run t K }
 {}
 
 /// What a run asks for over less is the front of what it asks for over more.
 pub fn asked_is_prefix<Y: Theory>(theory: &Y)
-    ensures { let r = Y.rules theory.now in (t : Y.Task) (K L : Y.Task → Option Y.Value) → Part K L → (rest : List Y.Task) × ((r.run t L).asked ≡ (r.run t K).asked ++ rest) }
+    ensures { let r = Y.rules theory.now in (t : Y.Task) (K L : Y.Task → Option Y.Value) → Part K L →
+        (rest : List Y.Task) × ((r.run t L).asked ≡ (r.run t K).asked ++ rest) }
 {}
 
 /// Each task that a run asks for is known, or is the one that its answer waits for.
 pub fn asked_is_known_or_lacking<Y: Theory>(theory: &Y)
-    ensures { let r = Y.rules theory.now in (t u : Y.Task) (K : Y.Task → Option Y.Value) → is_in r u (r.run t K).asked ≡ true → (is_some (K u) ≡ true) ⊎ ((r.run t K).answer ≡ Asks u) }
+    ensures { let r = Y.rules theory.now in (t u : Y.Task) (K : Y.Task → Option Y.Value) →
+        is_in r u (r.run t K).asked ≡ true → (is_some (K u) ≡ true) ⊎ ((r.run t K).answer ≡ Asks u) }
 {}
 
 /// Each task that a task asks for, over a part of all that is known, is a task.
 pub fn asked_is_a_task<Y: Theory>(theory: &Y)
-    ensures { let r = Y.rules theory.now in (t u : Y.Task) (K : Y.Task → Option Y.Value) → is_task r t ≡ true → Part K (known r) → is_in r u (r.run t K).asked ≡ true → is_task r u ≡ true }
+    ensures { let r = Y.rules theory.now in (t u : Y.Task) (K : Y.Task → Option Y.Value) → is_task r t ≡ true →
+        Part K (known r) → is_in r u (r.run t K).asked ≡ true → is_task r u ≡ true }
 {}
 
 /// What is known of a task is what its run over all that is known is done with.
 pub fn known_is_fixed<Y: Theory>(theory: &Y)
-    ensures { let r = Y.rules theory.now in (t : Y.Task) (v : Y.Value) → is_task r t ≡ true → (known r t ≡ Some v) ↔ ((r.run t (known r)).answer ≡ Done v) }
+    ensures { let r = Y.rules theory.now in (t : Y.Task) (v : Y.Value) → is_task r t ≡ true →
+        (known r t ≡ Some v) ↔ ((r.run t (known r)).answer ≡ Done v) }
 {}
 
 /// A task that waits for another over all that is known has its blame: so all tasks of a ring have one.
 pub fn ring_has_one_blame<Y: Theory>(theory: &Y)
-    ensures { let r = Y.rules theory.now in (t u : Y.Task) → is_task r t ≡ true → (r.run t (known r)).answer ≡ Asks u → blame r t ≡ blame r u }
+    ensures { let r = Y.rules theory.now in (t u : Y.Task) → is_task r t ≡ true →
+        (r.run t (known r)).answer ≡ Asks u → blame r t ≡ blame r u }
 {}

@@ -1,5 +1,6 @@
 -- Tasks that add up the values of others.
-use Rattle.std.specs.Prelude.{ℕ, zero, suc, ◌+◌, ◌%◌, ◌^◌, List, [], ◌∷◌, length, drop, Option, Some, None, slice_get, Bool, ltb, leb, eqb}
+use Rattle.std.specs.Prelude.{ℕ, zero, suc, ◌+◌, ◌%◌, ◌^◌, List, [], ◌∷◌, length, drop, Option, Some, None, slice_get}
+use Rattle.std.specs.Prelude.{Bool, ltb, leb, eqb}
 use Rattle.std.specs.List.{list_all}
 use Rattle.by_need.specs.Asking as runs
 use Rattle.by_need.specs.Asking.{Computation, Gives, Ask, Value, Error, Other}

@@ -13,7 +13,8 @@ use std::alloc::{AllocError, Global};
 /// Whether a value is missing or the known one.
 fn agrees(values: &[Option<u64>], known: &[Option<u64>], task: u32) -> bool
     ensures agrees { result ≡ true → (v : ℕ) → value_at values.now task ≡ Some v → value_at known.now task ≡ Some v }
-    ensures differs { result ≡ false → ((v : ℕ) → value_at values.now task ≡ Some v → value_at known.now task ≡ Some v) → ⊥ }
+    ensures differs { result ≡ false →
+        ((v : ℕ) → value_at values.now task ≡ Some v → value_at known.now task ≡ Some v) → ⊥ }
 {
     match value_of(values, task) {
         None => true,
@@ -26,8 +27,10 @@ fn agrees(values: &[Option<u64>], known: &[Option<u64>], task: u32) -> bool
 
 /// Whether all values of the tasks below a count agree.
 fn all_agree(values: &[Option<u64>], known: &[Option<u64>], count: u32) -> bool
-    ensures agree { result ≡ true → (t v : ℕ) → t < count → value_at values.now t ≡ Some v → value_at known.now t ≡ Some v }
-    ensures differ { result ≡ false → ((t v : ℕ) → t < count → value_at values.now t ≡ Some v → value_at known.now t ≡ Some v) → ⊥ }
+    ensures agree { result ≡ true → (t v : ℕ) → t < count → value_at values.now t ≡ Some v →
+        value_at known.now t ≡ Some v }
+    ensures differ { result ≡ false →
+        ((t v : ℕ) → t < count → value_at values.now t ≡ Some v → value_at known.now t ≡ Some v) → ⊥ }
 {
     'tasks: for task in 0..count {
         if !agrees(values, known, task) {
@@ -37,15 +40,19 @@ fn all_agree(values: &[Option<u64>], known: &[Option<u64>], count: u32) -> bool
     true
 }
 
-/// Loads a task over a table that is part of what is known; None where the table is no such part, or there is no such task.
+/// Loads a task over a table that is part of what is known; None where the table is no such part, or there is no such
+/// task.
 pub fn load_beside_rounds(
     alloc: Global,
     graph: &Graph,
     table: &mut Values,
     task: u32,
 ) -> Result<Option<Loaded<u32, u32, u32>>, AllocError>
-    ensures ends { IfOk result (λ loaded. IfSome loaded (Ends (rules_of graph.now.bodies.items) task (value_at table.new.values.items))) }
-    ensures refused { IfOk result (λ loaded. IsNone loaded → is_task (rules_of graph.now.bodies.items) task ≡ true → length table.old.values.items ≡ length graph.now.bodies.items → Part (value_at table.old.values.items) (known (rules_of graph.now.bodies.items)) → ⊥) }
+    ensures ends { IfOk result
+        (λ loaded. IfSome loaded (Ends (rules_of graph.now.bodies.items) task (value_at table.new.values.items))) }
+    ensures refused { IfOk result (λ loaded. IsNone loaded → is_task (rules_of graph.now.bodies.items) task ≡ true →
+        length table.old.values.items ≡ length graph.now.bodies.items →
+        Part (value_at table.old.values.items) (known (rules_of graph.now.bodies.items)) → ⊥) }
 {
     let known = known_values(alloc, graph)?;
     let count = graph.bodies.len() as u32;

@@ -44,7 +44,8 @@ fn walk_from(
     task: u32,
 ) -> Result<Vec<u32>, AllocError>
     requires { (t : ℕ) → value_at values.now t ≡ known (rules_of graph.now.bodies.items) t }
-    ensures { IfOk result (λ way. way.items ≡ walk (rules_of graph.now.bodies.items) (length graph.now.bodies.items) task) }
+    ensures { IfOk result (λ way. way.items ≡ walk (rules_of graph.now.bodies.items)
+        (length graph.now.bodies.items) task) }
 {
     let mut way = Vec::new(alloc);
     let mut last = task;

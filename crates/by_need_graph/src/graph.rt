@@ -45,7 +45,8 @@ impl Graph {
     /// None where a task asks for a number that is no task, or there are 2^32 tasks or more.
     pub fn new(bodies: Vec<Body>) -> Option<Self>
         ensures some { IfSome result (λ graph. graph.bodies ≡ bodies) }
-        ensures none { IsNone result → length bodies.items < 2 ^ 32 → all_below (length bodies.items) bodies.items ≡ false }
+        ensures none { IsNone result → length bodies.items < 2 ^ 32 → all_below (length bodies.items) bodies.items
+            ≡ false }
     {
         let count = bodies.len();
         if count > u32::MAX as usize {

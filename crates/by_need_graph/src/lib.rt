@@ -1,4 +1,5 @@
-//! Small graphs of tasks: numbers that ask for numbers. What is known of them by rounds over all, as a plain program, and
+//! Small graphs of tasks: numbers that ask for numbers. What is known of them by rounds over all, as a plain program,
+//! and
 //! what a loader needs of them.
 #![tactic(auto)]
 

@@ -54,7 +54,8 @@ pub fn run_task(graph: &Graph, task: u32, values: &[Option<u64>]) -> Answer
 
 /// The value that a run is done with, else what was known before.
 fn value_or_before(graph: &Graph, task: u32, values: &[Option<u64>]) -> Option<u64>
-    ensures { result ≡ value_or (value_at values.now task) ((rules_of graph.now.bodies.items).run task (value_at values.now)).answer }
+    ensures { result ≡ value_or (value_at values.now task)
+        ((rules_of graph.now.bodies.items).run task (value_at values.now)).answer }
 {
     match run_task(graph, task, values) {
         Answer::Done(value) => Some(value),
@@ -72,7 +73,9 @@ fn next_round(
 ) -> Result<Vec<Option<u64>>, AllocError>
     requires { length values.now ≡ length graph.now.bodies.items }
     ensures length { IfOk result (λ next. length next.items ≡ length values.now) }
-    ensures round { IfOk result (λ next. (t : ℕ) → t < length values.now → value_at next.items t ≡ value_or (value_at values.now t) ((rules_of graph.now.bodies.items).run t (value_at values.now)).answer) }
+    ensures round { IfOk result (λ next. (t : ℕ) → t < length values.now →
+        value_at next.items t ≡ value_or (value_at values.now t)
+        ((rules_of graph.now.bodies.items).run t (value_at values.now)).answer) }
 {
     let count = graph.bodies.len() as u32;
     let mut next = Vec::new(alloc);
@@ -85,7 +88,8 @@ fn next_round(
 /// The known values of all tasks.
 pub fn known_values(alloc: Global, graph: &Graph) -> Result<Vec<Option<u64>>, AllocError>
     ensures length { IfOk result (λ values. length values.items ≡ length graph.now.bodies.items) }
-    ensures known { IfOk result (λ values. (t : ℕ) → value_at values.items t ≡ known (rules_of graph.now.bodies.items) t) }
+    ensures known { IfOk result (λ values. (t : ℕ) →
+        value_at values.items t ≡ known (rules_of graph.now.bodies.items) t) }
 {
     let count = graph.bodies.len();
     let mut values = vec![in alloc; None; count]?;

@@ -1,5 +1,6 @@
 -- Small facts on lists and results.
-use Rattle.std.proofs.Common.{◌≡◌, ℕ, List, [], ◌∷◌, length, Bool, true, false, Result, Ok, Err, IfOk, sym, refl, ◌∙◌, arith, eqb}
+use Rattle.std.proofs.Common.{◌≡◌, ℕ, List, [], ◌∷◌, length, Bool, true, false, Result, Ok, Err, IfOk, sym, refl, ◌∙◌}
+use Rattle.std.proofs.Common.{arith, eqb}
 use Rattle.std.proofs.lemmas.Bool.{false≢true, eqb-true, eq-eqb}
 
 pub empty_when : {T : Type 0} (ts : List T) (n : ℕ) (b : Bool) → n ≡ length ts → b ≡ eqb n 0 → b ≡ true → ts ≡ []

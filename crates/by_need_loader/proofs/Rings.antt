@@ -1,5 +1,6 @@
 -- The least name of a ring.
-use Rattle.std.proofs.Common.{◌≡◌, ◌<◌, ◌≤◌, ◌+◌, ◌∷◌, [], ℕ, suc, zero, List, length, slice_get, get_or, Option, Some, Bool, true, false, inl, inr, refl, sym, ap, ◌∙◌, subst, arith}
+use Rattle.std.proofs.Common.{◌≡◌, ◌<◌, ◌≤◌, ◌+◌, ◌∷◌, [], ℕ, suc, zero, List, length, slice_get, get_or, Option, Some}
+use Rattle.std.proofs.Common.{Bool, true, false, inl, inr, refl, sym, ap, ◌∙◌, subst, arith}
 use Rattle.std.proofs.lemmas.Bool.{cases_lt}
 use Rattle.by_need.specs.Rounds.{Rules}
 use Rattle.by_need.specs.Laws.{Lawful}
@@ -7,7 +8,8 @@ use Rattle.by_need_loader.specs.Ring.{HasLeast}
 
 -- no name before n is less than the one at the place
 abbrev pub LeastBelow : {T : Type 0} → (T → T → Bool) → List T → ℕ → ℕ → Type 0
-LeastBelow {T} at_most ts place n = (m z : T) (k : ℕ) → k < n → slice_get ts place ≡ Some m → slice_get ts k ≡ Some z → at_most m z ≡ true
+LeastBelow {T} at_most ts place n = (m z : T) (k : ℕ) → k < n → slice_get ts place ≡ Some m →
+    slice_get ts k ≡ Some z → at_most m z ≡ true
 
 pub get_at : {T : Type 0} (xs : List T) (k : ℕ) (d : T) → k < length xs → slice_get xs k ≡ Some (get_or xs k d)
 get_at [] k d lt = absurd (omega (arith, lt))
@@ -29,7 +31,8 @@ module _ {T V E O : Type 0} (r : Rules T V E O) (laws : Lawful r) where
   starts_least ts m z zero lt p q = subst (λ x. r.at_most m x ≡ true) (same_some m z _ p q) (at_most_self m)
   starts_least ts m z (suc k) lt p q = absurd (omega (arith, lt))
 
-  module _ (ts : List T) (best i : ℕ) (a b : T) (x : Bool) (ea : a ≡ get_or ts best a) (eb : b ≡ get_or ts i b) (lb : best < i) (li : i < length ts) (is : x ≡ r.at_most a b) (least : LeastBelow r.at_most ts best i) where
+  module _ (ts : List T) (best i : ℕ) (a b : T) (x : Bool) (ea : a ≡ get_or ts best a) (eb : b ≡ get_or ts i b)
+      (lb : best < i) (li : i < length ts) (is : x ≡ r.at_most a b) (least : LeastBelow r.at_most ts best i) where
     at_best : slice_get ts best ≡ Some a
     at_best = get_at ts best a (omega (arith, lb, li)) ∙ ap Some (sym ea)
 
@@ -51,10 +54,12 @@ module _ {T V E O : Type 0} (r : Rules T V E O) (laws : Lawful r) where
     takes_least e m z k lt p q =
         let em = same_some b m _ at_i p in
         elim (cases_lt k i) [
-          | inl l ↦ subst (λ y. r.at_most y z ≡ true) em (laws.chain b a z (laws.total a b (sym is ∙ e)) (least a z k l at_best q))
+          | inl l ↦ subst (λ y. r.at_most y z ≡ true) em
+              (laws.chain b a z (laws.total a b (sym is ∙ e)) (least a z k l at_best q))
           | inr g ↦
               let same : k ≡ i = omega (arith, lt, g) in
-              subst (λ y. r.at_most m y ≡ true) (same_some m z _ p (ap (slice_get ts) (omega (arith, lt, g)) ∙ q)) (at_most_self m)
+              subst (λ y. r.at_most m y ≡ true) (same_some m z _ p (ap (slice_get ts) (omega (arith, lt, g)) ∙ q))
+              (at_most_self m)
         ]
 
 some_below : {T : Type 0} (ts : List T) (k : ℕ) (z : T) → slice_get ts k ≡ Some z → k < length ts
@@ -62,5 +67,6 @@ some_below [] k z e = absurd cc
 some_below (t ∷ ts) zero z e = omega arith
 some_below (t ∷ ts) (suc k) z e = omega (arith, some_below ts k z e)
 
-pub ends_least : {T : Type 0} (at_most : T → T → Bool) (ts : List T) (best i : ℕ) → length ts ≤ i → LeastBelow at_most ts best i → HasLeast at_most ts best
+pub ends_least : {T : Type 0} (at_most : T → T → Bool) (ts : List T) (best i : ℕ) → length ts ≤ i →
+    LeastBelow at_most ts best i → HasLeast at_most ts best
 ends_least at_most ts best i le h = λ m z k p q. let lt = some_below ts k z q in h m z k (omega (arith, lt, le)) p q

@@ -19,5 +19,7 @@ is_done Done = true
 is_done (Failed failure) = false
 
 -- The loader after some defines.
-abbrev pub IsOn : {T V E O R W : Type 0} → Rules T V E O → (W → V → Computation T V E O) → (R → Computation T V E O) → T → (T → Option V) → (T → Option V) → List T → List W → Phase T R → Type 0
-IsOn {T} {V} r branch rest wanted J K ts ws phase = (made : List (T × V)) × IsAt r branch rest wanted J made K ts ws phase
+abbrev pub IsOn : {T V E O R W : Type 0} → Rules T V E O → (W → V → Computation T V E O) →
+    (R → Computation T V E O) → T → (T → Option V) → (T → Option V) → List T → List W → Phase T R → Type 0
+IsOn {T} {V} r branch rest wanted J K ts ws phase = (made : List (T × V))
+    × IsAt r branch rest wanted J made K ts ws phase

@@ -8,7 +8,8 @@ use Rattle.by_need_loader.specs.declared.loader.Failure.{Failure}
 use Rattle.by_need_loader.specs.declared.loader.Failure.TheVariants as failure
 
 -- What is left of a run comes next to this: its end, or a question at which it waits, with the branches behind it.
-abbrev pub Reaches : {T V E O W : Type 0} → (W → V → Computation T V E O) → Computation T V E O → Next T V E O W → Type 0
+abbrev pub Reaches : {T V E O W : Type 0} → (W → V → Computation T V E O) → Computation T V E O → Next T V E O W →
+    Type 0
 Reaches branch c (Done v) = c ≡ Gives (Value v)
 Reaches branch c (Raised e) = c ≡ Gives (Error e)
 Reaches branch c (Asks u waiting) = c ≡ Ask u (branch waiting)

@@ -1,5 +1,6 @@
 -- What a loader has before each of its steps, what each step tells, and how much is left to do.
-use Rattle.std.specs.Prelude.{◌≡◌, ◌≤◌, ◌<◌, ◌+◌, ◌*◌, ◌-◌, length, ℕ, List, [], ◌∷◌, ◌++◌, Option, Some, None, Bool, true, false, reverse}
+use Rattle.std.specs.Prelude.{◌≡◌, ◌≤◌, ◌<◌, ◌+◌, ◌*◌, ◌-◌, length, ℕ, List, [], ◌∷◌, ◌++◌, Option, Some, None, Bool}
+use Rattle.std.specs.Prelude.{true, false, reverse}
 use Rattle.by_need.specs.Asking.{Computation, Ask, over}
 use Rattle.by_need.specs.Rounds.{Rules, Part, Needs, is_in, is_task, known}
 use Rattle.by_need.specs.Blame.{blame}
@@ -13,19 +14,23 @@ use Rattle.by_need_loader.specs.declared.loader.LoadStep.{LoadStep}
 use Rattle.by_need_loader.specs.declared.loader.LoadStep.TheVariants.{Look, Define, Done, Failed}
 
 -- Over each table that K is part of, what is left of the run of t ends as the run does.
-pub record Behind {T V E O : Type 0} (r : Rules T V E O) (K : T → Option V) (t : T) (c : Computation T V E O) : Type 0 where
+pub record Behind {T V E O : Type 0} (r : Rules T V E O) (K : T → Option V) (t : T) (c : Computation T V E O) : Type
+    0 where
   pub same : (L : T → Option V) → Part K L → (r.run t L).answer ≡ (over L c).answer
   pub fewer : length (over (known r) c).asked ≤ length (r.run t (known r)).asked
 
 -- The run of each open task waits for the task behind it, and the last one for u.
-abbrev pub AllBehind : {T V E O W : Type 0} → Rules T V E O → (W → V → Computation T V E O) → (T → Option V) → List T → List W → T → Type 0
+abbrev pub AllBehind : {T V E O W : Type 0} → Rules T V E O → (W → V → Computation T V E O) → (T → Option V) →
+    List T → List W → T → Type 0
 AllBehind r branch K [] [] u = Unit {0}
 AllBehind r branch K (t ∷ ts) (w ∷ ws) u = Behind r K t (Ask (first_or u ts) (branch w)) × AllBehind r branch K ts ws u
 AllBehind r branch K [] (w ∷ ws) u = ⊥
 AllBehind r branch K (t ∷ ts) [] u = ⊥
 
--- The open tasks ts and their waiting runs, from the wanted task to the one that asks for u: none is known, none stands twice.
-pub record Opened {T V E O W : Type 0} (r : Rules T V E O) (branch : W → V → Computation T V E O) (wanted : T) (K : T → Option V) (ts : List T) (ws : List W) (u : T) : Type 0 where
+-- The open tasks ts and their waiting runs, from the wanted task to the one that asks for u: none is known, none
+-- stands twice.
+pub record Opened {T V E O W : Type 0} (r : Rules T V E O) (branch : W → V → Computation T V E O) (wanted : T)
+    (K : T → Option V) (ts : List T) (ws : List W) (u : T) : Type 0 where
   pub is : is_task r wanted ≡ true
   pub part : Part K (known r)
   pub start : first_or u ts ≡ wanted
@@ -35,18 +40,25 @@ pub record Opened {T V E O W : Type 0} (r : Rules T V E O) (branch : W → V →
 
 -- A load of the wanted task was begun over J and has defined the listed values since. It now runs t over K, while the
 -- loads of the tasks before t are open (the latest first). However the load of t goes on, so does the whole one.
-abbrev pub SoFar : {T V E O : Type 0} → Rules T V E O → (T → Option V) → T → List T → T → (T → Option V) → List (T × V) → Type 0
-SoFar {T} {V} r J wanted [] t K made = (ds : List (T × V)) (L : T → Option V) (b : Bool) → Loads r K [] t ds L b → Loads r J [] wanted (made ++ ds) L b
+abbrev pub SoFar : {T V E O : Type 0} → Rules T V E O → (T → Option V) → T → List T → T → (T → Option V) →
+    List (T × V) → Type 0
+SoFar {T} {V} r J wanted [] t K made = (ds : List (T × V)) (L : T → Option V) (b : Bool) → Loads r K [] t ds L b →
+    Loads r J [] wanted (made ++ ds) L b
 SoFar {T} {V} r J wanted (s ∷ os) t K made =
-    ((ds : List (T × V)) (L : T → Option V) → Loads r K (s ∷ os) t ds L true → SoFar r J wanted os s L (made ++ ds)) × ((ds : List (T × V)) (L : T → Option V) → Loads r K (s ∷ os) t ds L false → Loads r J [] wanted (made ++ ds) L false)
+    ((ds : List (T × V)) (L : T → Option V) → Loads r K (s ∷ os) t ds L true → SoFar r J wanted os s L (made ++ ds))
+    × ((ds : List (T × V)) (L : T → Option V) → Loads r K (s ∷ os) t ds L false →
+    Loads r J [] wanted (made ++ ds) L false)
 
 -- The same before a look: nothing is defined yet, or the latest open task waits for the look.
-abbrev pub Before : {T V E O : Type 0} → Rules T V E O → (T → Option V) → T → List T → (T → Option V) → List (T × V) → Type 0
+abbrev pub Before : {T V E O : Type 0} → Rules T V E O → (T → Option V) → T → List T → (T → Option V) →
+    List (T × V) → Type 0
 Before r J wanted [] K made = (made ≡ []) × (K ≡ J)
 Before r J wanted (s ∷ os) K made = (J wanted ≡ None) × SoFar r J wanted os s K made
 
 -- The run of t goes on: t is not known and not open.
-pub record Running {T V E O R W : Type 0} (r : Rules T V E O) (branch : W → V → Computation T V E O) (rest : R → Computation T V E O) (wanted : T) (J : T → Option V) (made : List (T × V)) (K : T → Option V) (ts : List T) (ws : List W) (t : T) (m : R) : Type 0 where
+pub record Running {T V E O R W : Type 0} (r : Rules T V E O) (branch : W → V → Computation T V E O)
+    (rest : R → Computation T V E O) (wanted : T) (J : T → Option V) (made : List (T × V)) (K : T → Option V)
+    (ts : List T) (ws : List W) (t : T) (m : R) : Type 0 where
   pub opened : Opened r branch wanted K ts ws t
   pub lacks : K t ≡ None
   pub out : is_in r t ts ≡ false
@@ -55,12 +67,18 @@ pub record Running {T V E O R W : Type 0} (r : Rules T V E O) (branch : W → V 
   pub so_far : SoFar r J wanted (reverse ts) t K made
 
 -- The loader of a wanted task, begun over the table J; the listed values were defined since, and the table is now K.
-abbrev pub IsAt : {T V E O R W : Type 0} → Rules T V E O → (W → V → Computation T V E O) → (R → Computation T V E O) → T → (T → Option V) → List (T × V) → (T → Option V) → List T → List W → Phase T R → Type 0
-IsAt r branch rest wanted J made K ts ws (Asked u) = Opened r branch wanted K ts ws u × Before r J wanted (reverse ts) K made
-IsAt r branch rest wanted J made K ts ws (Looks u) = Opened r branch wanted K ts ws u × Before r J wanted (reverse ts) K made
-IsAt r branch rest wanted J made K ts ws (Lacks u) = Opened r branch wanted K ts ws u × Before r J wanted (reverse ts) K made × (K u ≡ None)
+abbrev pub IsAt : {T V E O R W : Type 0} → Rules T V E O → (W → V → Computation T V E O) →
+    (R → Computation T V E O) → T → (T → Option V) → List (T × V) → (T → Option V) → List T → List W → Phase T R →
+    Type 0
+IsAt r branch rest wanted J made K ts ws (Asked u) = Opened r branch wanted K ts ws u
+    × Before r J wanted (reverse ts) K made
+IsAt r branch rest wanted J made K ts ws (Looks u) = Opened r branch wanted K ts ws u
+    × Before r J wanted (reverse ts) K made
+IsAt r branch rest wanted J made K ts ws (Lacks u) = Opened r branch wanted K ts ws u
+    × Before r J wanted (reverse ts) K made × (K u ≡ None)
 IsAt r branch rest wanted J made K ts ws (Runs t m) = Running r branch rest wanted J made K ts ws t m
-IsAt {T} {V} r branch rest wanted J made K ts ws Loaded = (v : V) × (known r wanted ≡ Some v) × (K wanted ≡ Some v) × Load r J wanted made K true
+IsAt {T} {V} r branch rest wanted J made K ts ws Loaded = (v : V) × (known r wanted ≡ Some v) × (K wanted ≡ Some v)
+    × Load r J wanted made K true
 IsAt r branch rest wanted J made K ts ws Over = ⊥
 
 -- How many questions a run asks over all that is known; and the most that a task's run asks, taken together.
@@ -81,7 +99,8 @@ abbrev pub wide : {T V E O : Type 0} → Rules T V E O → ℕ
 wide r = 2 * most_asks r + 4
 
 -- What is left to do, so that each step and each answer leaves less.
-abbrev pub todo : {T V E O R W : Type 0} → Rules T V E O → (W → V → Computation T V E O) → (R → Computation T V E O) → (T → Option V) → List T → List W → Phase T R → ℕ
+abbrev pub todo : {T V E O R W : Type 0} → Rules T V E O → (W → V → Computation T V E O) →
+    (R → Computation T V E O) → (T → Option V) → List T → List W → Phase T R → ℕ
 todo r branch rest K ts ws (Asked u) = left r K ts * wide r + (2 * waits_left r branch ws u + 1)
 todo r branch rest K ts ws (Looks u) = left r K ts * wide r + 2 * waits_left r branch ws u
 todo r branch rest K ts ws (Lacks u) = left r K ts * wide r + (2 * waits_left r branch ws u - 1)
@@ -102,9 +121,16 @@ IsReady Over = ⊥
 -- that the wanted one needs, and that the table lacks, is known; the loader goes on over any table with it. Done: the
 -- wanted task is known and in the table. Failed: it stays unknown, and this is its blame. At both ends the values were
 -- defined in a load's order.
-abbrev pub Tells : {T V E O R W : Type 0} → Rules T V E O → (W → V → Computation T V E O) → (R → Computation T V E O) → T → (T → Option V) → List (T × V) → (T → Option V) → List T → List W → Phase T R → ℕ → LoadStep T V E O → Type 0
-Tells r branch rest wanted J made K ts ws phase bound (Look u) = (phase ≡ Looks u) × IsAt r branch rest wanted J made K ts ws phase × (todo r branch rest K ts ws phase < bound)
+abbrev pub Tells : {T V E O R W : Type 0} → Rules T V E O → (W → V → Computation T V E O) →
+    (R → Computation T V E O) → T → (T → Option V) → List (T × V) → (T → Option V) → List T → List W → Phase T R →
+    ℕ → LoadStep T V E O → Type 0
+Tells r branch rest wanted J made K ts ws phase bound (Look u) = (phase ≡ Looks u)
+    × IsAt r branch rest wanted J made K ts ws phase × (todo r branch rest K ts ws phase < bound)
 Tells {T} {V} r branch rest wanted J made K ts ws phase bound (Define u v) =
-    IsReady phase × (K u ≡ None) × (known r u ≡ Some v) × Needs r wanted u × ((L : T → Option V) → Defines r K u v L → IsAt r branch rest wanted J (made ++ (u, v) ∷ []) L ts ws phase × (todo r branch rest L ts ws phase < bound))
-Tells {T} {V} r branch rest wanted J made K ts ws phase bound Done = (v : V) × (known r wanted ≡ Some v) × (K wanted ≡ Some v) × Load r J wanted made K true
-Tells r branch rest wanted J made K ts ws phase bound (Failed failure) = (known r wanted ≡ None) × (blame r wanted ≡ cause failure) × Load r J wanted made K false
+    IsReady phase × (K u ≡ None) × (known r u ≡ Some v) × Needs r wanted u
+    × ((L : T → Option V) → Defines r K u v L → IsAt r branch rest wanted J (made ++ (u, v) ∷ []) L ts ws phase
+    × (todo r branch rest L ts ws phase < bound))
+Tells {T} {V} r branch rest wanted J made K ts ws phase bound Done = (v : V) × (known r wanted ≡ Some v)
+    × (K wanted ≡ Some v) × Load r J wanted made K true
+Tells r branch rest wanted J made K ts ws phase bound (Failed failure) = (known r wanted ≡ None)
+    × (blame r wanted ≡ cause failure) × Load r J wanted made K false

@@ -60,7 +60,8 @@ impl<T: Drop, R: Drop, W: Drop> Loader<T, R, W> {
         task: T,
     ) -> Self
         ensures ready { IsReady result.phase }
-        ensures at { let r = Y.rules _theory.now in (K : T → Option Y.Value) → is_task r task ≡ true → Part K (known r) →
+        ensures at { let r = Y.rules _theory.now in (K : T → Option Y.Value) → is_task r task ≡ true →
+            Part K (known r) →
             IsAt r (Y.branch _theory.now) (Y.rest _theory.now) task K [] K result.tasks.items result.waiting.items result.phase }
     {
         Loader {
@@ -76,10 +77,14 @@ impl<T: Drop, R: Drop, W: Drop> Loader<T, R, W> {
         theory: &Y,
         found: Option<&Y::Value>,
     ) -> Result<(), AllocError>
-        ensures { let r = Y.rules theory.now in IfOk result (λ _. (u wanted : T) (J K : T → Option Y.Value) (made : List (T × Y.Value)) → self.old.phase ≡ Phase.Looks u → option_copied found.entry ≡ K u →
+        ensures { let r = Y.rules theory.now in
+            IfOk result (λ _. (u wanted : T) (J K : T → Option Y.Value) (made : List (T × Y.Value)) →
+            self.old.phase ≡ Phase.Looks u → option_copied found.entry ≡ K u →
             IsAt r (Y.branch theory.now) (Y.rest theory.now) wanted J made K self.old.tasks.items self.old.waiting.items self.old.phase →
             IsReady self.new.phase × IsAt r (Y.branch theory.now) (Y.rest theory.now) wanted J made K self.new.tasks.items self.new.waiting.items self.new.phase
-            × (todo r (Y.branch theory.now) (Y.rest theory.now) K self.new.tasks.items self.new.waiting.items self.new.phase < todo r (Y.branch theory.now) (Y.rest theory.now) K self.old.tasks.items self.old.waiting.items self.old.phase)) }
+            × (todo r (Y.branch theory.now) (Y.rest theory.now) K self.new.tasks.items self.new.waiting.items
+            self.new.phase < todo r (Y.branch theory.now) (Y.rest theory.now) K self.old.tasks.items
+            self.old.waiting.items self.old.phase)) }
     {
         match mem::replace(&mut self.phase, Phase::Over) {
             Phase::Looks(task) => match found {
@@ -97,7 +102,9 @@ impl<T: Drop, R: Drop, W: Drop> Loader<T, R, W> {
         alloc: Global,
         theory: &Y,
     ) -> Result<LoadStep<T, Y::Value, Y::Error, Y::Other>, AllocError>
-        ensures { let r = Y.rules theory.now in IfOk result (λ told. (wanted : T) (J K : T → Option Y.Value) (made : List (T × Y.Value)) → IsReady self.old.phase →
+        ensures { let r = Y.rules theory.now in
+            IfOk result (λ told. (wanted : T) (J K : T → Option Y.Value) (made : List (T × Y.Value)) →
+            IsReady self.old.phase →
             IsAt r (Y.branch theory.now) (Y.rest theory.now) wanted J made K self.old.tasks.items self.old.waiting.items self.old.phase →
             Tells r (Y.branch theory.now) (Y.rest theory.now) wanted J made K self.new.tasks.items self.new.waiting.items self.new.phase (todo r (Y.branch theory.now) (Y.rest theory.now) K self.old.tasks.items self.old.waiting.items self.old.phase) told) }
     {
@@ -120,10 +127,14 @@ impl<T: Drop, R: Drop, W: Drop> Loader<T, R, W> {
         theory: &Y,
         value: &Y::Value,
     ) -> Result<(), AllocError>
-        ensures { let r = Y.rules theory.now in IfOk result (λ _. (u wanted : T) (J K : T → Option Y.Value) (made : List (T × Y.Value)) → K u ≡ Some value.now →
+        ensures { let r = Y.rules theory.now in
+            IfOk result (λ _. (u wanted : T) (J K : T → Option Y.Value) (made : List (T × Y.Value)) →
+            K u ≡ Some value.now →
             Opened r (Y.branch theory.now) wanted K self.old.tasks.items self.old.waiting.items u → Before r J wanted (reverse self.old.tasks.items) K made →
             IsReady self.new.phase × IsAt r (Y.branch theory.now) (Y.rest theory.now) wanted J made K self.new.tasks.items self.new.waiting.items self.new.phase
-            × (todo r (Y.branch theory.now) (Y.rest theory.now) K self.new.tasks.items self.new.waiting.items self.new.phase < todo r (Y.branch theory.now) (Y.rest theory.now) K self.old.tasks.items self.old.waiting.items (Phase.Looks u))) }
+            × (todo r (Y.branch theory.now) (Y.rest theory.now) K self.new.tasks.items self.new.waiting.items
+            self.new.phase < todo r (Y.branch theory.now) (Y.rest theory.now) K self.old.tasks.items
+            self.old.waiting.items (Phase.Looks u))) }
     {
         match self.tasks.pop() {
             None => self.phase = Phase::Loaded,
@@ -142,7 +153,8 @@ impl<T: Drop, R: Drop, W: Drop> Loader<T, R, W> {
         theory: &Y,
         task: T,
     ) -> Result<LoadStep<T, Y::Value, Y::Error, Y::Other>, AllocError>
-        ensures { let r = Y.rules theory.now in IfOk result (λ told. (wanted : T) (J K : T → Option Y.Value) (made : List (T × Y.Value)) (bound : ℕ) →
+        ensures { let r = Y.rules theory.now in
+            IfOk result (λ told. (wanted : T) (J K : T → Option Y.Value) (made : List (T × Y.Value)) (bound : ℕ) →
             Opened r (Y.branch theory.now) wanted K self.old.tasks.items self.old.waiting.items task → Before r J wanted (reverse self.old.tasks.items) K made →
             todo r (Y.branch theory.now) (Y.rest theory.now) K self.old.tasks.items self.old.waiting.items (Phase.Looks task) < bound →
             Tells r (Y.branch theory.now) (Y.rest theory.now) wanted J made K self.new.tasks.items self.new.waiting.items self.new.phase bound told) }
@@ -159,7 +171,8 @@ impl<T: Drop, R: Drop, W: Drop> Loader<T, R, W> {
         theory: &Y,
         task: T,
     ) -> Result<LoadStep<T, Y::Value, Y::Error, Y::Other>, AllocError>
-        ensures { let r = Y.rules theory.now in IfOk result (λ told. (wanted : T) (J K : T → Option Y.Value) (made : List (T × Y.Value)) (bound : ℕ) →
+        ensures { let r = Y.rules theory.now in
+            IfOk result (λ told. (wanted : T) (J K : T → Option Y.Value) (made : List (T × Y.Value)) (bound : ℕ) →
             Opened r (Y.branch theory.now) wanted K self.old.tasks.items self.old.waiting.items task → Before r J wanted (reverse self.old.tasks.items) K made → K task ≡ None →
             todo r (Y.branch theory.now) (Y.rest theory.now) K self.old.tasks.items self.old.waiting.items (Phase.Lacks task) ≤ bound →
             Tells r (Y.branch theory.now) (Y.rest theory.now) wanted J made K self.new.tasks.items self.new.waiting.items self.new.phase bound told) }
@@ -183,7 +196,8 @@ impl<T: Drop, R: Drop, W: Drop> Loader<T, R, W> {
         task: T,
         running: R,
     ) -> Result<LoadStep<T, Y::Value, Y::Error, Y::Other>, AllocError>
-        ensures { let r = Y.rules theory.now in IfOk result (λ told. (wanted : T) (J K : T → Option Y.Value) (made : List (T × Y.Value)) (bound : ℕ) →
+        ensures { let r = Y.rules theory.now in
+            IfOk result (λ told. (wanted : T) (J K : T → Option Y.Value) (made : List (T × Y.Value)) (bound : ℕ) →
             Running r (Y.branch theory.now) (Y.rest theory.now) wanted J made K self.old.tasks.items self.old.waiting.items task running →
             todo r (Y.branch theory.now) (Y.rest theory.now) K self.old.tasks.items self.old.waiting.items (Phase.Runs task running) ≤ bound →
             Tells r (Y.branch theory.now) (Y.rest theory.now) wanted J made K self.new.tasks.items self.new.waiting.items self.new.phase bound told) }

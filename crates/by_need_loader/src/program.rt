@@ -61,5 +61,6 @@ pub trait Program: Theory {
         ensures { IfOk result (λ running. rest self.now running ≡ branch self.now waiting value.now) };
 
     /// A run over what is known follows the tree of its task.
-    ghost runs: { (s : Self) (t : Self.Task) (K : Self.Task → Option Self.Value) → (Self.rules s).run t K ≡ over K (meaning s t) };
+    ghost runs: { (s : Self) (t : Self.Task) (K : Self.Task → Option Self.Value) →
+        (Self.rules s).run t K ≡ over K (meaning s t) };
 }

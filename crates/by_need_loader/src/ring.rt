@@ -1,5 +1,6 @@
 //! The ring among the open tasks.
-ghost use Rattle.std.specs.Prelude.{◌≡◌, ◌<◌, ℕ, length, IfSome, IsNone, true, false, slice_get, drop, take, ◌++◌, Some, Option};
+ghost use Rattle.std.specs.Prelude.{◌≡◌, ◌<◌, ℕ, length, IfSome, IsNone, true, false, slice_get, drop, take, ◌++◌};
+ghost use Rattle.std.specs.Prelude.{Some, Option};
 ghost use Rattle.std.specs.List.{list_any};
 ghost use Rattle.by_need_loader.specs.Ring.{IsTurned, HasLeast};
 
@@ -23,7 +24,8 @@ fn least_place<Y: Program>(theory: &Y, tasks: &[Y::Task]) -> usize
 
 /// The first place of a task.
 pub fn place_of<Y: Program>(theory: &Y, tasks: &[Y::Task], task: &Y::Task) -> Option<usize>
-    ensures there { IfSome result (λ place. (place < length tasks.now) × ((x : Y.Task) → slice_get tasks.now place ≡ Some x → (Y.rules theory.now).same task.now x ≡ true)) }
+    ensures there { IfSome result (λ place. (place < length tasks.now)
+        × ((x : Y.Task) → slice_get tasks.now place ≡ Some x → (Y.rules theory.now).same task.now x ≡ true)) }
     ensures missing { IsNone result → list_any ((Y.rules theory.now).same task.now) tasks.now ≡ false }
 {
     for (i, open) in tasks.iter().enumerate() {

@@ -29,7 +29,8 @@ pub fn load<Y: Program, B: Table<Y::Task, Y::Value>>(
     ensures ends { IfOk result (Ends (Y.rules theory.now) task (B.at table.new)) }
     ensures part { Part (B.at table.new) (known (Y.rules theory.now)) }
     ensures gains { Gains (Y.rules theory.now) task (B.at table.old) (B.at table.new) }
-    ensures order { IfOk result (λ loaded. (made : List (Y.Task × Y.Value)) × Load (Y.rules theory.now) (B.at table.old) task made (B.at table.new) (is_done loaded)) }
+    ensures order { IfOk result (λ loaded. (made : List (Y.Task × Y.Value))
+        × Load (Y.rules theory.now) (B.at table.old) task made (B.at table.new) (is_done loaded)) }
 {
     let mut loader = Loader::begin(alloc, theory, task);
     'steps: loop {

@@ -1,4 +1,5 @@
-//! Loads beside the rounds, from every part of what is known as table: all graphs of up to four tasks with up to two questions
+//! Loads beside the rounds, from every part of what is known as table: all graphs of up to four tasks with up to two
+//! questions
 //! each, where each task ends by a value, an error or an end of the other kind.
 use by_need_graph::rounds::Answer;
 use by_need_graph::{Body, Ending, Graph, Values, known_values, load_beside_rounds, run_task};

@@ -12,11 +12,13 @@ IsLess a b = slice_cmp nat_cmp a b ≡ Less
 
 -- among the first n rows, each name is less than each later one
 abbrev pub RisingTo : List (List ℕ × ℕ) → ℕ → Type 0
-RisingTo rows n = (i j : ℕ) (r s : List ℕ × ℕ) → i < j → j < n → slice_get rows i ≡ Some r → slice_get rows j ≡ Some s → IsLess r.0 s.0
+RisingTo rows n = (i j : ℕ) (r s : List ℕ × ℕ) → i < j → j < n → slice_get rows i ≡ Some r →
+    slice_get rows j ≡ Some s → IsLess r.0 s.0
 
 -- each name is less than each later one; so no name stands twice
 abbrev pub Rising : List (List ℕ × ℕ) → Type 0
-Rising rows = (i j : ℕ) (r s : List ℕ × ℕ) → i < j → slice_get rows i ≡ Some r → slice_get rows j ≡ Some s → IsLess r.0 s.0
+Rising rows = (i j : ℕ) (r s : List ℕ × ℕ) → i < j → slice_get rows i ≡ Some r → slice_get rows j ≡ Some s →
+    IsLess r.0 s.0
 
 -- a row has this name and code
 abbrev pub HasCode : List (List ℕ × ℕ) → List ℕ → ℕ → Type 0

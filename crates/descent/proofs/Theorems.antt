@@ -1,12 +1,15 @@
 -- What reading a whole text says: its value, or its first fault.
-use Rattle.std.proofs.Common.{◌≡◌, ◌⊎◌, inl, inr, Bool, true, false, List, [], ◌∷◌, ◌++◌, Option, None, length, refl, sym, ap, ◌∙◌, append_assoc, append-nil, subst, arith}
+use Rattle.std.proofs.Common.{◌≡◌, ◌⊎◌, inl, inr, Bool, true, false, List, [], ◌∷◌, ◌++◌, Option, None, length, refl}
+use Rattle.std.proofs.Common.{sym, ap, ◌∙◌, append_assoc, append-nil, subst, arith}
 use Rattle.std.proofs.lemmas.List.{length-append}
-use Rattle.descent.specs.Grammar.{Signs, Grammar, give, Item, word, marked, Is, is_given, only, words, marks_after, Clear, Says, Spells}
+use Rattle.descent.specs.Grammar.{Signs, Grammar, give, Item, word, marked, Is, is_given, only, words, marks_after}
+use Rattle.descent.specs.Grammar.{Clear, Says, Spells}
 use Rattle.descent.specs.Faults.{Stuck, Stops, Due, Clashes, NoClash}
 use Rattle.descent.specs.Reading.{Choices, head, Outcome, done, fault, Why, Unexpected, Deep, Barred, Twice, Reads}
 use Rattle.descent.specs.Lawful.{Follow, Follows, Goes, Lawful}
 use Rattle.descent.proofs.Laws.{det, fault_in}
-use Rattle.descent.proofs.Lists.{SameHead, same_end, same_word, split, same_first, same_others, words_append, words_before}
+use Rattle.descent.proofs.Lists.{SameHead, same_end, same_word, split, same_first, same_others, words_append}
+use Rattle.descent.proofs.Lists.{words_before}
 use Rattle.descent.proofs.Complete.{complete}
 use Rattle.descent.proofs.Clashing.{DueIn, clashing, not_marked}
 use Rattle.descent.proofs.Facts.{Failed, facts}
@@ -37,34 +40,57 @@ pub record FirstClash {g : Signs} (grammar : Grammar g) (ms : List g.Mark) (ts :
   pub clash : grammar.clashes (marks_after ms before) at ≡ true
 
 module _ {g : Signs} (grammar : Grammar g) where
-  mark_clash : (ms : List g.Mark) (m : g.Mark) (ts : List (Item g)) (b : Bool) → grammar.clashes ms m ≡ b → Clear grammar (m ∷ ms) ts ⊎ FirstClash grammar (m ∷ ms) ts → Clear grammar ms (marked m ∷ ts) ⊎ FirstClash grammar ms (marked m ∷ ts)
+  mark_clash : (ms : List g.Mark) (m : g.Mark) (ts : List (Item g)) (b : Bool) → grammar.clashes ms m ≡ b →
+      Clear grammar (m ∷ ms) ts ⊎ FirstClash grammar (m ∷ ms) ts → Clear grammar ms (marked m ∷ ts)
+      ⊎ FirstClash grammar ms (marked m ∷ ts)
   mark_clash ms m ts true e h = inr (record { before = []; at = m; behind = ts; whole = refl; clear = tt; clash = e })
   mark_clash ms m ts false e (inl c) = inl (e, c)
-  mark_clash ms m ts false e (inr f) = inr (record { before = marked m ∷ f.before; at = f.at; behind = f.behind; whole = ap (λ l. marked m ∷ l) f.whole; clear = (e, f.clear); clash = f.clash })
+  mark_clash ms m ts false e (inr f) =
+      inr (record {
+        before = marked m ∷ f.before;
+        at = f.at;
+        behind = f.behind;
+        whole =
+            ap (λ l. marked m ∷ l) f.whole;
+        clear = (e, f.clear);
+        clash = f.clash;
+      })
 
   first_clash : (ms : List g.Mark) (ts : List (Item g)) → Clear grammar ms ts ⊎ FirstClash grammar ms ts
   first_clash ms [] = inl tt
   first_clash ms (word w ∷ ts) = elim (first_clash ms ts) [
     | inl c ↦ inl c
-    | inr f ↦ inr (record { before = word w ∷ f.before; at = f.at; behind = f.behind; whole = ap (λ l. word w ∷ l) f.whole; clear = f.clear; clash = f.clash })
+    | inr f ↦ inr (record {
+      before = word w ∷ f.before;
+      at = f.at;
+      behind = f.behind;
+      whole =
+          ap (λ l. word w ∷ l) f.whole;
+      clear = f.clear;
+      clash = f.clash;
+    })
   ]
   first_clash ms (marked m ∷ ts) = mark_clash ms m ts (grammar.clashes ms m) refl (first_clash (m ∷ ms) ts)
 
   -- a clear beginning holds no clash
-  no_clash_in : (ms : List g.Mark) (b d : List (Item g)) (m : g.Mark) → Clear grammar ms (b ++ marked m ∷ d) → grammar.clashes (marks_after ms b) m ≡ true → ⊥
+  no_clash_in : (ms : List g.Mark) (b d : List (Item g)) (m : g.Mark) → Clear grammar ms (b ++ marked m ∷ d) →
+      grammar.clashes (marks_after ms b) m ≡ true → ⊥
   no_clash_in ms [] d m c k = cc
   no_clash_in ms (word w ∷ b) d m c k = no_clash_in ms b d m c k
   no_clash_in ms (marked n ∷ b) d m c k = no_clash_in (n ∷ ms) b d m c.1 k
 
-module _ {g : Signs} (grammar : Grammar g) (choices : Choices g) (follow : Follow g) (laws : Lawful grammar choices follow) {s : g.Sort} (rule : g.Rule s) (ends : follow.fits rule None ≡ true) where
+module _ {g : Signs} (grammar : Grammar g) (choices : Choices g) (follow : Follow g)
+    (laws : Lawful grammar choices follow) {s : g.Sort} (rule : g.Rule s) (ends : follow.fits rule None ≡ true) where
   abbrev fit : Option g.Word → Bool
   fit = follow.fits rule
 
-  given_follows : (y : g.Val s) (ts : List (Item g)) (x : g.Val s) (rest : List g.Word) → Is grammar s (give y) ts x → fit (head rest) ≡ true → fit (head (words ts ++ rest)) ≡ true
+  given_follows : (y : g.Val s) (ts : List (Item g)) (x : g.Val s) (rest : List g.Word) →
+      Is grammar s (give y) ts x → fit (head rest) ≡ true → fit (head (words ts ++ rest)) ≡ true
   given_follows y [] x rest a h = h
   given_follows y (t ∷ ts) x rest a h = absurd (nothing_given y (t ∷ ts) x t ts a refl)
     where
-      nothing_given : (y : g.Val s) (us : List (Item g)) (x : g.Val s) (t : Item g) (ts : List (Item g)) → Is grammar s (give y) us x → us ≡ t ∷ ts → ⊥
+      nothing_given : (y : g.Val s) (us : List (Item g)) (x : g.Val s) (t : Item g) (ts : List (Item g)) →
+          Is grammar s (give y) us x → us ≡ t ∷ ts → ⊥
       nothing_given y us x t ts is_given e = cc
 
   only_follows : Follows grammar follow {s = s} fit (only {g = g} {s = s} rule)
@@ -74,27 +100,37 @@ module _ {g : Signs} (grammar : Grammar g) (choices : Choices g) (follow : Follo
   only_goes = λ y. tt
 
   -- what a sentence is read as
-  said : (ts : List (Item g)) (x : g.Val s) → Says grammar rule ts x → (o : Outcome g s) × (Reads grammar choices s (only rule) [] (words ts ++ []) o) × (IsStop o → ⊥)
+  said : (ts : List (Item g)) (x : g.Val s) → Says grammar rule ts x → (o : Outcome g s)
+      × (Reads grammar choices s (only rule) [] (words ts ++ []) o) × (IsStop o → ⊥)
   said ts x a = elim (first_clash grammar [] ts) [
-    | inl c ↦ (done x (marks_after [] ts) [], complete grammar choices follow laws fit [] [] a only_follows c ends, λ h. h)
+    | inl c ↦ (
+      done x (marks_after [] ts) [],
+      complete grammar choices follow laws fit [] [] a only_follows c ends,
+      λ h. h,
+    )
     | inr f ↦ (
       fault (Twice f.at) (words f.behind ++ []),
-      subst (λ l. Reads grammar choices s (only rule) [] l (fault (Twice f.at) (words f.behind ++ []))) (sym (ap (λ l. words l ++ []) f.whole ∙ words_before f.before (marked f.at ∷ f.behind) []))
-          (clashing grammar choices follow laws fit [] f.before f.behind f.at [] (words f.behind ++ []) a only_follows only_goes f.whole f.clear f.clash ends (inl refl)),
+      subst (λ l. Reads grammar choices s (only rule) [] l (fault (Twice f.at) (words f.behind ++ [])))
+          (sym (ap (λ l. words l ++ []) f.whole ∙ words_before f.before (marked f.at ∷ f.behind) []))
+          (clashing grammar choices follow laws fit [] f.before f.behind f.at []
+          (words f.behind ++ []) a only_follows only_goes f.whole f.clear f.clash ends (inl refl)),
       λ h. h,
     )
   ]
 
   -- ---- a text is read, in one way
 
-  pub read : (ws : List g.Word) (x : g.Val s) → Spells grammar rule ws x → (ns : List g.Mark) × Reads grammar choices s (only rule) [] ws (done x ns [])
+  pub read : (ws : List g.Word) (x : g.Val s) → Spells grammar rule ws x → (ns : List g.Mark)
+      × Reads grammar choices s (only rule) [] ws (done x ns [])
   read ws x a = (
     marks_after [] a.items,
-    subst (λ l. Reads grammar choices s (only rule) [] l (done x (marks_after [] a.items) [])) (append-nil (words a.items) ∙ a.spelled)
+    subst (λ l. Reads grammar choices s (only rule) [] l (done x (marks_after [] a.items) []))
+        (append-nil (words a.items) ∙ a.spelled)
         (complete grammar choices follow laws fit [] [] a.says only_follows a.clear ends),
   )
 
-  pub found : (ws : List g.Word) (x : g.Val s) (ns : List g.Mark) → Reads grammar choices s (only rule) [] ws (done x ns []) → Spells grammar rule ws x
+  pub found : (ws : List g.Word) (x : g.Val s) (ns : List g.Mark) →
+      Reads grammar choices s (only rule) [] ws (done x ns []) → Spells grammar rule ws x
   found ws x ns a =
       let f = facts grammar choices follow laws a only_goes in
       record { items = f.items; spelled = sym (f.whole ∙ append-nil (words f.items)); says = f.says; clear = f.clear }
@@ -105,10 +141,12 @@ module _ {g : Signs} (grammar : Grammar g) (choices : Choices g) (follow : Follo
   pub one_tree : (ws : List g.Word) (x y : g.Val s) → Spells grammar rule ws x → Spells grammar rule ws y → x ≡ y
   one_tree ws x y a b = same_value x y _ _ [] (det grammar choices (read ws x a).1 (read ws y b).1)
 
-  pub stop_spells_none : (ws : List g.Word) (x : g.Val s) (o : Outcome g s) → Reads grammar choices s (only rule) [] ws o → IsStop o → Spells grammar rule ws x → ⊥
+  pub stop_spells_none : (ws : List g.Word) (x : g.Val s) (o : Outcome g s) →
+      Reads grammar choices s (only rule) [] ws o → IsStop o → Spells grammar rule ws x → ⊥
   stop_spells_none ws x o a h b = subst (λ o. IsStop o) (sym (det grammar choices (read ws x b).1 a)) h
 
-  pub twice_spells_none : (ws rest : List g.Word) (x : g.Val s) (m : g.Mark) → Reads grammar choices s (only rule) [] ws (fault (Twice m) rest) → Spells grammar rule ws x → ⊥
+  pub twice_spells_none : (ws rest : List g.Word) (x : g.Val s) (m : g.Mark) →
+      Reads grammar choices s (only rule) [] ws (fault (Twice m) rest) → Spells grammar rule ws x → ⊥
   twice_spells_none ws rest x m a b = apart (det grammar choices (read ws x b).1 a)
     where
       apart : {x : g.Val s} {ns : List g.Mark} → done_in g s x ns [] ≡ fault_in g s (Twice m) rest → ⊥
@@ -123,9 +161,11 @@ module _ {g : Signs} (grammar : Grammar g) (choices : Choices g) (follow : Follo
     more : List (Item g)
     value : g.Val s
     says : Says grammar rule (items ++ more) value
-    again : (r : List g.Word) → SameHead rest r → (o : Outcome g s) × Reads grammar choices s (only rule) [] (words items ++ r) o × IsStop o
+    again : (r : List g.Word) → SameHead rest r → (o : Outcome g s)
+        × Reads grammar choices s (only rule) [] (words items ++ r) o × IsStop o
 
-  stop_again : (x : g.Val s) (ns : List g.Mark) (rest r : List g.Word) → SameHead rest r → IsStop (done_in g s x ns rest) → IsStop (done_in g s x ns r)
+  stop_again : (x : g.Val s) (ns : List g.Mark) (rest r : List g.Word) → SameHead rest r →
+      IsStop (done_in g s x ns rest) → IsStop (done_in g s x ns r)
   stop_again x ns rest r same_end h = h
   stop_again x ns rest r same_word h = h
 
@@ -135,7 +175,8 @@ module _ {g : Signs} (grammar : Grammar g) (choices : Choices g) (follow : Follo
   why_again Barred rest r h = h
   why_again (Twice m) rest r h = h
 
-  stopped : (ws : List g.Word) (o : Outcome g s) → Reads grammar choices s (only rule) [] ws o → IsStop o → Stopped ws (rest_of o)
+  stopped : (ws : List g.Word) (o : Outcome g s) → Reads grammar choices s (only rule) [] ws o → IsStop o →
+      Stopped ws (rest_of o)
   stopped ws (done x ns rest) a h =
       let f = facts grammar choices follow laws a only_goes in
       record {
@@ -167,27 +208,41 @@ module _ {g : Signs} (grammar : Grammar g) (choices : Choices g) (follow : Follo
       let t = said (h.0 ++ h.2.0) h.2.1 h.2.2 in
       let b = f.again (w ∷ (words h.2.0 ++ [])) same_word in
       let e : words (h.0 ++ h.2.0) ++ [] ≡ words f.items ++ w ∷ (words h.2.0 ++ []) =
-      words_before h.0 h.2.0 [] ∙ ap (λ l. l ++ (words h.2.0 ++ [])) h.1 ∙ append_assoc (words f.items) (w ∷ []) (words h.2.0 ++ []) in
+      words_before h.0 h.2.0 [] ∙ ap (λ l. l ++ (words h.2.0 ++ [])) h.1
+      ∙ append_assoc (words f.items) (w ∷ []) (words h.2.0 ++ []) in
       let c = subst (λ l. Reads grammar choices s (only rule) [] l t.0) e t.1 in
       t.2 (subst (λ o. IsStop o) (det grammar choices b.1 c) b.2)
 
   -- the first fault is there
-  pub stops : (ws : List g.Word) (o : Outcome g s) → Reads grammar choices s (only rule) [] ws o → IsStop o → Stops grammar rule ws (rest_of o)
+  pub stops : (ws : List g.Word) (o : Outcome g s) → Reads grammar choices s (only rule) [] ws o → IsStop o →
+      Stops grammar rule ws (rest_of o)
   stops ws o a h =
       let f = stopped ws o a h in
-      record { used = words f.items; whole = f.whole; begins = (f.items, refl, (f.more, f.value, f.says)); stuck = stuck ws (rest_of o) f }
+      record {
+        used = words f.items;
+        whole = f.whole;
+        begins = (f.items, refl, (f.more, f.value, f.says));
+        stuck =
+            stuck ws (rest_of o) f;
+      }
 
-  due_in : (before : List (Item g)) (rest : List g.Word) → Due grammar rule before rest → DueIn grammar (only rule) before rest
+  due_in : (before : List (Item g)) (rest : List g.Word) → Due grammar rule before rest →
+      DueIn grammar (only rule) before rest
   due_in before [] d = tt
-  due_in before (w ∷ rest) d = λ more x a. d (more, x, subst (λ l. Says grammar rule l x) (sym (append_assoc before (word w ∷ []) more)) a)
+  due_in before (w ∷ rest) d = λ more x a.
+      d (more, x, subst (λ l. Says grammar rule l x) (sym (append_assoc before (word w ∷ []) more)) a)
 
-  read_clash : (ws : List g.Word) (m : g.Mark) (k : Clashes grammar rule ws m) → Reads grammar choices s (only rule) [] ws (fault (Twice m) k.rest)
+  read_clash : (ws : List g.Word) (m : g.Mark) (k : Clashes grammar rule ws m) →
+      Reads grammar choices s (only rule) [] ws (fault (Twice m) k.rest)
   read_clash ws m k =
-      let a = subst (λ l. Says grammar rule l k.viable.1) (append_assoc k.before (marked m ∷ []) k.viable.0) k.viable.2 in
+      let a = subst (λ l. Says grammar rule l k.viable.1) (append_assoc k.before (marked m ∷ []) k.viable.0)
+      k.viable.2 in
       subst (λ l. Reads grammar choices s (only rule) [] l (fault (Twice m) k.rest)) (sym k.whole)
-      (clashing grammar choices follow laws fit [] k.before k.viable.0 m [] k.rest a only_follows only_goes refl k.clear k.clash ends (inr (due_in k.before k.rest k.due)))
+      (clashing grammar choices follow laws fit [] k.before k.viable.0 m [] k.rest a only_follows only_goes refl
+      k.clear k.clash ends (inr (due_in k.before k.rest k.due)))
 
-  pub no_clash : (ws : List g.Word) (o : Outcome g s) → Reads grammar choices s (only rule) [] ws o → IsStop o → NoClash grammar rule ws
+  pub no_clash : (ws : List g.Word) (o : Outcome g s) → Reads grammar choices s (only rule) [] ws o → IsStop o →
+      NoClash grammar rule ws
   no_clash ws o a h = λ m k. subst (λ o. IsStop o) (det grammar choices a (read_clash ws m k)) h
 
   -- one thing counts twice first
@@ -197,7 +252,8 @@ module _ {g : Signs} (grammar : Grammar g) (choices : Choices g) (follow : Follo
       same_mark : (m n : g.Mark) (r r' : List g.Word) → fault_in g s (Twice m) r ≡ fault (Twice n) r' → m ≡ n
       same_mark m n r r' e = cc
 
-  pub clash_spells_none : (ws : List g.Word) (x : g.Val s) (m : g.Mark) → Clashes grammar rule ws m → Spells grammar rule ws x → ⊥
+  pub clash_spells_none : (ws : List g.Word) (x : g.Val s) (m : g.Mark) → Clashes grammar rule ws m →
+      Spells grammar rule ws x → ⊥
   clash_spells_none ws x m k b = twice_spells_none ws k.rest x m (read_clash ws m k) b
 
   -- ---- something counts twice
@@ -207,18 +263,23 @@ module _ {g : Signs} (grammar : Grammar g) (choices : Choices g) (follow : Follo
       let x = ap (λ l. length l) e' in
       omega (arith, x, ap (λ l. length l) e, length-append a b, length-append c [], length-append b [])
 
-  twice_due : (ws rest : List g.Word) (m : g.Mark) (f : Failed grammar choices (only rule) [] ws (Twice m) rest) → Due grammar rule f.items rest
+  twice_due : (ws rest : List g.Word) (m : g.Mark) (f : Failed grammar choices (only rule) [] ws (Twice m) rest) →
+      Due grammar rule f.items rest
   twice_due ws [] m f = tt
   twice_due ws (w ∷ rest) m f = λ v.
       let a = subst (λ l. Says grammar rule l v.1) (append_assoc f.items (word w ∷ []) v.0) v.2 in
       let b = f.again (w ∷ (words v.0 ++ [])) same_word in
       elim (first_clash grammar [] (f.items ++ word w ∷ v.0)) [
-        | inl c ↦ apart _ _ _ _ (det grammar choices (subst (λ l. Reads grammar choices s (only rule) [] l (done v.1 (marks_after [] (f.items ++ word w ∷ v.0)) [])) (words_before f.items (word w ∷ v.0) [])
+        | inl c ↦ apart _ _ _ _ (det grammar choices
+            (subst (λ l. Reads grammar choices s (only rule) [] l
+            (done v.1 (marks_after [] (f.items ++ word w ∷ v.0)) [])) (words_before f.items (word w ∷ v.0) [])
             (complete grammar choices follow laws fit [] [] a only_follows c ends)) b)
         | inr k ↦
-            let d = clashing grammar choices follow laws fit [] k.before k.behind k.at [] (words k.behind ++ []) a only_follows only_goes k.whole k.clear k.clash ends (inl refl) in
+            let d = clashing grammar choices follow laws fit [] k.before k.behind k.at []
+            (words k.behind ++ []) a only_follows only_goes k.whole k.clear k.clash ends (inl refl) in
             let e = ap (λ l. words l ++ []) k.whole ∙ words_before k.before (marked k.at ∷ k.behind) [] in
-            let d' = subst (λ l. Reads grammar choices s (only rule) [] l (fault (Twice k.at) (words k.behind ++ []))) (sym e ∙ words_before f.items (word w ∷ v.0) []) d in
+            let d' = subst (λ l. Reads grammar choices s (only rule) [] l
+            (fault (Twice k.at) (words k.behind ++ []))) (sym e ∙ words_before f.items (word w ∷ v.0) []) d in
             let same = same_rest _ _ _ _ (det grammar choices b d') in
             elim (split f.items (word w ∷ v.0) k.before k.behind (marked k.at) k.whole) [
               | inl j ↦ no_clash_in grammar [] k.before j.0 k.at (subst (λ l. Clear grammar [] l) j.1 f.clear) k.clash
@@ -226,25 +287,35 @@ module _ {g : Signs} (grammar : Grammar g) (choices : Choices g) (follow : Follo
             ]
       ]
     where
-      apart : (x : g.Val s) (ns : List g.Mark) (m : g.Mark) (r : List g.Word) → done_in g s x ns [] ≡ fault_in g s (Twice m) r → ⊥
+      apart : (x : g.Val s) (ns : List g.Mark) (m : g.Mark) (r : List g.Word) →
+          done_in g s x ns [] ≡ fault_in g s (Twice m) r → ⊥
       apart x ns m r e = cc
 
       same_rest : (m n : g.Mark) (r r' : List g.Word) → fault_in g s (Twice m) r ≡ fault (Twice n) r' → r ≡ r'
       same_rest m n r r' e = cc
 
-      inside : (w : g.Word) (more d behind : List (Item g)) (n : g.Mark) → word w ∷ more ≡ d ++ marked n ∷ behind → w ∷ (words more ++ []) ≡ words behind ++ [] → ⊥
+      inside : (w : g.Word) (more d behind : List (Item g)) (n : g.Mark) → word w ∷ more ≡ d ++ marked n ∷ behind →
+          w ∷ (words more ++ []) ≡ words behind ++ [] → ⊥
       inside w more [] behind n e e' = not_marked w n (word w) refl (same_first (word w) (marked n) more behind e)
       inside w more (t ∷ d) behind n e e' =
-          not_shorter w (words d) (words behind) (words more) (ap (λ l. words l) (same_others (word w) t more (d ++ marked n ∷ behind) e) ∙ words_append d (marked n ∷ behind)) e'
+          not_shorter w (words d) (words behind) (words more)
+          (ap (λ l. words l) (same_others (word w) t more (d ++ marked n ∷ behind) e)
+          ∙ words_append d (marked n ∷ behind)) e'
 
-  pub twice : (ws rest : List g.Word) (m : g.Mark) → Reads grammar choices s (only rule) [] ws (fault (Twice m) rest) → Clashes grammar rule ws m
+  pub twice : (ws rest : List g.Word) (m : g.Mark) →
+      Reads grammar choices s (only rule) [] ws (fault (Twice m) rest) → Clashes grammar rule ws m
   twice ws rest m a =
       let f = facts grammar choices follow laws a only_goes in
       record {
         before = f.items;
         rest = rest;
         whole = f.whole;
-        viable = (f.reason.0.0, f.value, subst (λ l. Says grammar rule l f.value) (ap (λ l. f.items ++ l) f.reason.0.1 ∙ sym (append_assoc f.items (marked m ∷ []) f.reason.0.0)) f.says);
+        viable = (
+          f.reason.0.0,
+          f.value,
+          subst (λ l. Says grammar rule l f.value)
+              (ap (λ l. f.items ++ l) f.reason.0.1 ∙ sym (append_assoc f.items (marked m ∷ []) f.reason.0.0)) f.says,
+        );
         due = twice_due ws rest m f;
         clear = f.clear;
         clash = f.reason.1;

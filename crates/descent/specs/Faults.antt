@@ -31,9 +31,11 @@ abbrev pub Due : {g : Signs} → Grammar g → {s : g.Sort} → g.Rule s → Lis
 Due grammar rule ts [] = Unit {0}
 Due grammar rule ts (w ∷ rest) = Viable grammar rule (ts ++ word w ∷ []) → ⊥
 
--- Something counts a second time: behind these items comes a mark that clashes, the first that does, and the word at hand
+-- Something counts a second time: behind these items comes a mark that clashes, the first that does, and the word at
+-- hand
 -- can come only behind it, if at all.
-pub record Clashes {g : Signs} (grammar : Grammar g) {s : g.Sort} (rule : g.Rule s) (ws : List g.Word) (m : g.Mark) : Type 0 where
+pub record Clashes {g : Signs} (grammar : Grammar g) {s : g.Sort} (rule : g.Rule s) (ws : List g.Word)
+    (m : g.Mark) : Type 0 where
   pub before : List (Item g)
   pub rest : List g.Word
   pub whole : ws ≡ words before ++ rest

@@ -1,7 +1,8 @@
 -- Grammars whose rules give values, and their sentences. Nothing here knows how a text is read.
 use Rattle.std.specs.Prelude.{◌≡◌, Bool, true, false, List, [], ◌∷◌, ◌++◌}
 
--- What a grammar speaks of: the words of its texts; marks, which stand between words where a text makes something count;
+-- What a grammar speaks of: the words of its texts; marks, which stand between words where a text makes something
+-- count;
 -- sorts of values; and rules, each with the sort of its value. A rule carries its context in itself.
 pub record Signs : Type 1 where
   pub Word : Type 0
@@ -10,7 +11,8 @@ pub record Signs : Type 1 where
   pub Val : Sort → Type 0
   pub Rule : Sort → Type 0
 
--- A production: it gives a value; or reads a word that passes a test, or what a rule says, and goes on with what was read;
+-- A production: it gives a value; or reads a word that passes a test, or what a rule says, and goes on with what was
+-- read;
 -- or stands at a mark and goes on.
 pub data Prod (g : Signs) (s : g.Sort) : Type 0 where
   give : g.Val s → Prod g s
@@ -36,12 +38,15 @@ pub data Among {A : Type 0} (p : A) : List A → Type 0 where
 -- These items are a sentence of the production, and this is its value.
 pub data Is {g : Signs} (grammar : Grammar g) : (s : g.Sort) → Prod g s → List (Item g) → g.Val s → Type 0 where
   is_given : {s : g.Sort} {x : g.Val s} → Is grammar s (give x) [] x
-  is_word : {s : g.Sort} {test : g.Word → Bool} {next : g.Word → Prod g s} {w : g.Word} {ts : List (Item g)} {x : g.Val s} →
+  is_word : {s : g.Sort} {test : g.Word → Bool} {next : g.Word → Prod g s} {w : g.Word} {ts : List (Item g)}
+      {x : g.Val s} →
       test w ≡ true → Is grammar s (next w) ts x → Is grammar s (token test next) (word w ∷ ts) x
   is_marked : {s : g.Sort} {m : g.Mark} {p : Prod g s} {ts : List (Item g)} {x : g.Val s} →
       Is grammar s p ts x → Is grammar s (mark m p) (marked m ∷ ts) x
-  is_called : {s v : g.Sort} {rule : g.Rule v} {next : g.Val v → Prod g s} {p : Prod g v} {ts us vs : List (Item g)} {y : g.Val v} {x : g.Val s} →
-      Among p (grammar.alternatives rule) → Is grammar v p us y → Is grammar s (next y) vs x → ts ≡ us ++ vs → Is grammar s (call rule next) ts x
+  is_called : {s v : g.Sort} {rule : g.Rule v} {next : g.Val v → Prod g s} {p : Prod g v} {ts us vs : List (Item g)}
+      {y : g.Val v} {x : g.Val s} →
+      Among p (grammar.alternatives rule) → Is grammar v p us y → Is grammar s (next y) vs x → ts ≡ us ++ vs →
+      Is grammar s (call rule next) ts x
 
 -- what a rule says, alone
 abbrev pub only : {g : Signs} {s : g.Sort} → g.Rule s → Prod g s
@@ -69,7 +74,8 @@ Clear grammar ms (word w ∷ ts) = Clear grammar ms ts
 Clear grammar ms (marked m ∷ ts) = (grammar.clashes ms m ≡ false) × Clear grammar (m ∷ ms) ts
 
 -- These words are a text of the rule, and this is its value: with some marks they are a sentence without a clash.
-pub record Spells {g : Signs} (grammar : Grammar g) {s : g.Sort} (rule : g.Rule s) (ws : List g.Word) (x : g.Val s) : Type 0 where
+pub record Spells {g : Signs} (grammar : Grammar g) {s : g.Sort} (rule : g.Rule s) (ws : List g.Word)
+    (x : g.Val s) : Type 0 where
   pub items : List (Item g)
   pub spelled : words items ≡ ws
   pub says : Says grammar rule items x

@@ -1,6 +1,8 @@
--- What a grammar and the choices of its reader owe, so that reading by descent is exact. Each is a fact of single rules.
+-- What a grammar and the choices of its reader owe, so that reading by descent is exact. Each is a fact of single
+-- rules.
 use Rattle.std.specs.Prelude.{◌≡◌, ◌⊎◌, ◌<◌, Bool, true, false, List, [], ◌∷◌, ◌++◌, Option, Some, length}
-use Rattle.descent.specs.Grammar.{Signs, Grammar, Prod, give, token, call, mark, Item, word, marked, Is, Among, only, words}
+use Rattle.descent.specs.Grammar.{Signs, Grammar, Prod, give, token, call, mark, Item, word, marked, Is, Among, only}
+use Rattle.descent.specs.Grammar.{words}
 use Rattle.descent.specs.Reading.{Choices, take, too_deep, barred, nothing, head, choose, Outcome, done, fault, Reads}
 
 -- Which word, or the end, may follow what a rule says; whether the choice looks at the second word, given the first;
@@ -35,7 +37,9 @@ abbrev pub Follows : {g : Signs} → Grammar g → Follow g → {s : g.Sort} →
 Follows grammar follow fit (give x) = Unit {0}
 Follows {g} grammar follow fit (token test next) = (w : g.Word) → test w ≡ true → Follows grammar follow fit (next w)
 Follows {g} grammar follow {s} fit (call {v} rule next) = (y : g.Val v) →
-    (Follows grammar follow fit (next y) × Plain follow (next y) × ((ts : List (Item g)) (x : g.Val s) (rest : List g.Word) → Is grammar s (next y) ts x → fit (head rest) ≡ true → follow.fits rule (head (words ts ++ rest)) ≡ true))
+    (Follows grammar follow fit (next y) × Plain follow (next y)
+    × ((ts : List (Item g)) (x : g.Val s) (rest : List g.Word) → Is grammar s (next y) ts x →
+    fit (head rest) ≡ true → follow.fits rule (head (words ts ++ rest)) ≡ true))
 Follows grammar follow fit (mark m p) = Follows grammar follow fit p
 
 -- No sentence has a mark.
@@ -61,25 +65,39 @@ BarredAt grammar rule (w ∷ ws) = BeginsWith grammar rule w
 
 pub record Lawful {g : Signs} (grammar : Grammar g) (choices : Choices g) (follow : Follow g) : Type 0 where
   -- what is chosen is an alternative
-  pub chosen : {s : g.Sort} (rule : g.Rule s) (a b : Option g.Word) (p : Prod g s) → choices.pick rule a b ≡ take p → Among p (grammar.alternatives rule)
+  pub chosen : {s : g.Sort} (rule : g.Rule s) (a b : Option g.Word) (p : Prod g s) → choices.pick rule a b ≡ take p →
+      Among p (grammar.alternatives rule)
   -- the choice looks at one word, or at two where the first is then passed
-  pub one_word : {s : g.Sort} (rule : g.Rule s) (a b c : Option g.Word) → follow.looks rule a ≡ false → choices.pick rule a b ≡ choices.pick rule a c
-  pub passes : {s : g.Sort} (rule : g.Rule s) (w : g.Word) (ws : List g.Word) (p : Prod g s) (ms : List g.Mark) (o : Outcome g s) →
-      follow.looks rule (Some w) ≡ true → choose choices rule (w ∷ ws) ≡ take p → Reads grammar choices s p ms (w ∷ ws) o → length (left o) < length (w ∷ ws)
-  pub one_word_stops : {s : g.Sort} (rule : g.Rule s) (w : g.Word) (b : Option g.Word) → follow.looks rule (Some w) ≡ true →
+  pub one_word : {s : g.Sort} (rule : g.Rule s) (a b c : Option g.Word) → follow.looks rule a ≡ false →
+      choices.pick rule a b ≡ choices.pick rule a c
+  pub passes : {s : g.Sort} (rule : g.Rule s) (w : g.Word) (ws : List g.Word) (p : Prod g s) (ms : List g.Mark)
+      (o : Outcome g s) →
+      follow.looks rule (Some w) ≡ true → choose choices rule (w ∷ ws) ≡ take p →
+      Reads grammar choices s p ms (w ∷ ws) o → length (left o) < length (w ∷ ws)
+  pub one_word_stops : {s : g.Sort} (rule : g.Rule s) (w : g.Word) (b : Option g.Word) →
+      follow.looks rule (Some w) ≡ true →
       (choices.pick rule (Some w) b ≡ too_deep → ⊥) × (choices.pick rule (Some w) b ≡ nothing → ⊥)
   -- an alternative that says something, before what may follow the rule, is the one chosen
   pub chooses : {s : g.Sort} (rule : g.Rule s) (p : Prod g s) (ts : List (Item g)) (x : g.Val s) (rest : List g.Word) →
-      Among p (grammar.alternatives rule) → Is grammar s p ts x → follow.fits rule (head rest) ≡ true → choose choices rule (words ts ++ rest) ≡ take p
+      Among p (grammar.alternatives rule) → Is grammar s p ts x → follow.fits rule (head rest) ≡ true →
+      choose choices rule (words ts ++ rest) ≡ take p
   -- what follows each call fits the called rule
-  pub follows : {s : g.Sort} (rule : g.Rule s) (p : Prod g s) → Among p (grammar.alternatives rule) → Follows grammar follow (follow.fits rule) p
+  pub follows : {s : g.Sort} (rule : g.Rule s) (p : Prod g s) → Among p (grammar.alternatives rule) →
+      Follows grammar follow (follow.fits rule) p
   -- each rule has a sentence, each test passes some word, and what is barred begins some sentence
   pub ends : {s : g.Sort} (rule : g.Rule s) → (ts : List (Item g)) × (x : g.Val s) × Is grammar s (only rule) ts x
   pub goes : {s : g.Sort} (rule : g.Rule s) (p : Prod g s) → Among p (grammar.alternatives rule) → Goes p
-  pub bars : {s : g.Sort} (rule : g.Rule s) (w : g.Word) (b : Option g.Word) → choices.pick rule (Some w) b ≡ barred → (follow.looks rule (Some w) ≡ true) × BeginsWith grammar rule w
-  -- a sentence that begins with a mark has nothing else, and is chosen before each word that doesn't begin another sentence
-  pub plain_rule : {s : g.Sort} (rule : g.Rule s) (p : Prod g s) → Among p (grammar.alternatives rule) → follow.plain rule ≡ true → Plain follow p
-  pub marked_rule : {s : g.Sort} (rule : g.Rule s) (p : Prod g s) (m : g.Mark) (ts : List (Item g)) (x : g.Val s) → Among p (grammar.alternatives rule) → follow.plain rule ≡ false →
-      Is grammar s p (marked m ∷ ts) x → (ts ≡ []) × ((ws : List g.Word) → (choose choices rule ws ≡ take p) ⊎ CanBegin grammar rule ws)
-  pub quiet_rule : {s : g.Sort} (rule : g.Rule s) (p : Prod g s) → Among p (grammar.alternatives rule) → follow.quiet rule ≡ true → Quiet follow p
-  pub looks_quiet : {s : g.Sort} (rule : g.Rule s) (a : Option g.Word) → follow.looks rule a ≡ true → (follow.quiet rule ≡ true) × (follow.plain rule ≡ true)
+  pub bars : {s : g.Sort} (rule : g.Rule s) (w : g.Word) (b : Option g.Word) →
+      choices.pick rule (Some w) b ≡ barred → (follow.looks rule (Some w) ≡ true) × BeginsWith grammar rule w
+  -- a sentence that begins with a mark has nothing else, and is chosen before each word that doesn't begin another
+  -- sentence
+  pub plain_rule : {s : g.Sort} (rule : g.Rule s) (p : Prod g s) → Among p (grammar.alternatives rule) →
+      follow.plain rule ≡ true → Plain follow p
+  pub marked_rule : {s : g.Sort} (rule : g.Rule s) (p : Prod g s) (m : g.Mark) (ts : List (Item g)) (x : g.Val s) →
+      Among p (grammar.alternatives rule) → follow.plain rule ≡ false →
+      Is grammar s p (marked m ∷ ts) x → (ts ≡ [])
+      × ((ws : List g.Word) → (choose choices rule ws ≡ take p) ⊎ CanBegin grammar rule ws)
+  pub quiet_rule : {s : g.Sort} (rule : g.Rule s) (p : Prod g s) → Among p (grammar.alternatives rule) →
+      follow.quiet rule ≡ true → Quiet follow p
+  pub looks_quiet : {s : g.Sort} (rule : g.Rule s) (a : Option g.Word) → follow.looks rule a ≡ true →
+      (follow.quiet rule ≡ true) × (follow.plain rule ≡ true)

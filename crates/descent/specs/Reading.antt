@@ -1,8 +1,10 @@
--- What a reader by recursive descent does: it chooses a rule's production by the next word, or the next two, and never goes back.
+-- What a reader by recursive descent does: it chooses a rule's production by the next word, or the next two, and
+-- never goes back.
 use Rattle.std.specs.Prelude.{◌≡◌, Bool, true, false, List, [], ◌∷◌, Option, Some, None}
 use Rattle.descent.specs.Grammar.{Signs, Grammar, Prod, give, token, call, mark}
 
--- What is chosen: a production; or none, since it would open a level too much at the next word; or none, since what begins with
+-- What is chosen: a production; or none, since it would open a level too much at the next word; or none, since what
+-- begins with
 -- the next word is barred at the one behind it; or none, since nothing begins with the next word.
 pub data Choice (g : Signs) (s : g.Sort) : Type 0 where
   take : Prod g s → Choice g s
@@ -38,25 +40,35 @@ pub data Outcome (g : Signs) (s : g.Sort) : Type 0 where
   fault : Why g → List g.Word → Outcome g s
 
 -- Behind these marks, this production reads these words so.
-pub data Reads {g : Signs} (grammar : Grammar g) (choices : Choices g) : (s : g.Sort) → Prod g s → List g.Mark → List g.Word → Outcome g s → Type 0 where
-  by_give : {s : g.Sort} {x : g.Val s} {ms : List g.Mark} {ws : List g.Word} → Reads grammar choices s (give x) ms ws (done x ms ws)
-  by_word : {s : g.Sort} {test : g.Word → Bool} {next : g.Word → Prod g s} {ms : List g.Mark} {w : g.Word} {ws : List g.Word} {o : Outcome g s} →
+pub data Reads {g : Signs} (grammar : Grammar g) (choices : Choices g) : (s : g.Sort) → Prod g s → List g.Mark →
+    List g.Word → Outcome g s → Type 0 where
+  by_give : {s : g.Sort} {x : g.Val s} {ms : List g.Mark} {ws : List g.Word} →
+      Reads grammar choices s (give x) ms ws (done x ms ws)
+  by_word : {s : g.Sort} {test : g.Word → Bool} {next : g.Word → Prod g s} {ms : List g.Mark} {w : g.Word}
+      {ws : List g.Word} {o : Outcome g s} →
       test w ≡ true → Reads grammar choices s (next w) ms ws o → Reads grammar choices s (token test next) ms (w ∷ ws) o
-  by_other : {s : g.Sort} {test : g.Word → Bool} {next : g.Word → Prod g s} {ms : List g.Mark} {w : g.Word} {ws : List g.Word} →
+  by_other : {s : g.Sort} {test : g.Word → Bool} {next : g.Word → Prod g s} {ms : List g.Mark} {w : g.Word}
+      {ws : List g.Word} →
       test w ≡ false → Reads grammar choices s (token test next) ms (w ∷ ws) (fault Unexpected (w ∷ ws))
   by_end : {s : g.Sort} {test : g.Word → Bool} {next : g.Word → Prod g s} {ms : List g.Mark} →
       Reads grammar choices s (token test next) ms [] (fault Unexpected [])
   by_mark : {s : g.Sort} {m : g.Mark} {p : Prod g s} {ms : List g.Mark} {ws : List g.Word} {o : Outcome g s} →
-      grammar.clashes ms m ≡ false → Reads grammar choices s p (m ∷ ms) ws o → Reads grammar choices s (mark m p) ms ws o
+      grammar.clashes ms m ≡ false → Reads grammar choices s p (m ∷ ms) ws o →
+      Reads grammar choices s (mark m p) ms ws o
   by_clash : {s : g.Sort} {m : g.Mark} {p : Prod g s} {ms : List g.Mark} {ws : List g.Word} →
       grammar.clashes ms m ≡ true → Reads grammar choices s (mark m p) ms ws (fault (Twice m) ws)
-  by_call : {s v : g.Sort} {rule : g.Rule v} {next : g.Val v → Prod g s} {p : Prod g v} {ms ns : List g.Mark} {ws rest : List g.Word} {y : g.Val v} {o : Outcome g s} →
-      choose choices rule ws ≡ take p → Reads grammar choices v p ms ws (done y ns rest) → Reads grammar choices s (next y) ns rest o → Reads grammar choices s (call rule next) ms ws o
-  by_fault : {s v : g.Sort} {rule : g.Rule v} {next : g.Val v → Prod g s} {p : Prod g v} {ms : List g.Mark} {ws rest : List g.Word} {why : Why g} →
-      choose choices rule ws ≡ take p → Reads grammar choices v p ms ws (fault why rest) → Reads grammar choices s (call rule next) ms ws (fault why rest)
+  by_call : {s v : g.Sort} {rule : g.Rule v} {next : g.Val v → Prod g s} {p : Prod g v} {ms ns : List g.Mark}
+      {ws rest : List g.Word} {y : g.Val v} {o : Outcome g s} →
+      choose choices rule ws ≡ take p → Reads grammar choices v p ms ws (done y ns rest) →
+      Reads grammar choices s (next y) ns rest o → Reads grammar choices s (call rule next) ms ws o
+  by_fault : {s v : g.Sort} {rule : g.Rule v} {next : g.Val v → Prod g s} {p : Prod g v} {ms : List g.Mark}
+      {ws rest : List g.Word} {why : Why g} →
+      choose choices rule ws ≡ take p → Reads grammar choices v p ms ws (fault why rest) →
+      Reads grammar choices s (call rule next) ms ws (fault why rest)
   by_depth : {s v : g.Sort} {rule : g.Rule v} {next : g.Val v → Prod g s} {ms : List g.Mark} {ws : List g.Word} →
       choose choices rule ws ≡ too_deep → Reads grammar choices s (call rule next) ms ws (fault Deep ws)
-  by_bar : {s v : g.Sort} {rule : g.Rule v} {next : g.Val v → Prod g s} {ms : List g.Mark} {w : g.Word} {ws : List g.Word} →
+  by_bar : {s v : g.Sort} {rule : g.Rule v} {next : g.Val v → Prod g s} {ms : List g.Mark} {w : g.Word}
+      {ws : List g.Word} →
       choose choices rule (w ∷ ws) ≡ barred → Reads grammar choices s (call rule next) ms (w ∷ ws) (fault Barred ws)
   by_nothing : {s v : g.Sort} {rule : g.Rule v} {next : g.Val v → Prod g s} {ms : List g.Mark} {ws : List g.Word} →
       choose choices rule ws ≡ nothing → Reads grammar choices s (call rule next) ms ws (fault Unexpected ws)

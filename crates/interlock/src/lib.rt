@@ -3,7 +3,8 @@
 
 ghost use Rattle.std.specs.Prelude.{◌≡◌, ◌<◌, ◌≤◌, ◌+◌, ◌-◌, ◌⊎◌, length, true, false};
 ghost use Rattle.share_lock.specs.Rows.{another_exclusive, busy_exclusive, eligible, is_nothing, last_saved};
-ghost use Rattle.share_lock.specs.Lock.{Lock, row_of, owns, changed_at, taken_by, released, refuses_share, with_share, without_share, seeking, releasing, yielded, restored};
+ghost use Rattle.share_lock.specs.Lock.{Lock, row_of, owns, changed_at, taken_by, released, refuses_share, with_share};
+ghost use Rattle.share_lock.specs.Lock.{without_share, seeking, releasing, yielded, restored};
 
 use share_lock::{LockState, Phase, Resume, Share, Start, Stop};
 

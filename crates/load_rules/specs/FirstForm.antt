@@ -1,4 +1,5 @@
--- The trees of the first form: a class without a parent that has one singleton method with one parameter, whose body is one plain text.
+-- The trees of the first form: a class without a parent that has one singleton method with one parameter, whose body
+-- is one plain text.
 use Rattle.std.specs.Prelude.{ℕ, true, List, [], ◌∷◌, None}
 use Rattle.ruby_types.specs.declared.tree.Def.{Def}
 use Rattle.ruby_types.specs.declared.tree.Def.TheVariants as def

@@ -13,7 +13,8 @@ IsFirstText class bytes parts = IsText bytes (first_tree class parts)
 
 -- the bytes have a tree of the first form, or they have no tree
 abbrev pub IsReadableText : (class bytes : List ℕ) → Type 0
-IsReadableText class bytes = ((parts : FirstParts) × IsFirstText class bytes parts) ⊎ ((at : ℕ) × (why : Why) × NoText bytes at why)
+IsReadableText class bytes = ((parts : FirstParts) × IsFirstText class bytes parts)
+    ⊎ ((at : ℕ) × (why : Why) × NoText bytes at why)
 
 -- the file has the path of a controller, and its text is readable
 pub record IsReadable (file : FileEntry) : Type 0 where
@@ -41,17 +42,22 @@ IsReplyOf class action parts reply = ((action ≡ parts.name) × (reply ≡ reco
 -- the reply of a file: 500 with its first fault where it has no tree, else its method's
 abbrev pub IsFileReply : (class action : List ℕ) → FileEntry → Reply → Type 0
 IsFileReply class action file reply =
-    ((at : ℕ) × (why : Why) × NoText file.bytes at why × (reply ≡ record { status = 500; body = syntax_error (kind_text why) at file.path }))
+    ((at : ℕ) × (why : Why) × NoText file.bytes at why
+    × (reply ≡ record { status = 500; body = syntax_error (kind_text why) at file.path }))
     ⊎ ((parts : FirstParts) × IsFirstText class file.bytes parts × IsReplyOf class action parts reply)
 
--- 404 where the controller has no file, 500 with the first fault where its file has no tree, 404 where its method has another
+-- 404 where the controller has no file, 500 with the first fault where its file has no tree, 404 where its method has
+-- another
 -- name, and else 200 with the method's text.
 pub data FirstReply (files : List FileEntry) (controller action : List ℕ) : Reply → Type 0 where
   no_controller : ((file : FileEntry) → IsFileOf files controller file → ⊥)
       → FirstReply files controller action (record { status = 404; body = no_controller_text (class_name controller) })
   no_tree : (file : FileEntry) (at : ℕ) (why : Why) → IsFileOf files controller file → NoText file.bytes at why
       → FirstReply files controller action (record { status = 500; body = syntax_error (kind_text why) at file.path })
-  no_action : (file : FileEntry) (parts : FirstParts) → IsFileOf files controller file → IsFirstText (class_name controller) file.bytes parts
-      → action ≢ parts.name → FirstReply files controller action (record { status = 404; body = no_action_text (class_name controller) action })
-  answers : (file : FileEntry) (parts : FirstParts) → IsFileOf files controller file → IsFirstText (class_name controller) file.bytes parts
+  no_action : (file : FileEntry) (parts : FirstParts) → IsFileOf files controller file →
+      IsFirstText (class_name controller) file.bytes parts
+      → action ≢ parts.name → FirstReply files controller action
+      (record { status = 404; body = no_action_text (class_name controller) action })
+  answers : (file : FileEntry) (parts : FirstParts) → IsFileOf files controller file →
+      IsFirstText (class_name controller) file.bytes parts
       → action ≡ parts.name → FirstReply files controller action (record { status = 200; body = parts.text })

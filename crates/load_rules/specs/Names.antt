@@ -16,7 +16,8 @@ abbrev pub capitalized : List ℕ → List ℕ
 capitalized [] = []
 capitalized (byte ∷ bytes) = to_ascii_uppercase byte ∷ bytes
 
--- The class of a controller: of `hello`, `HelloController`. Each piece of the file's base name between `_` is capitalized,
+-- The class of a controller: of `hello`, `HelloController`. Each piece of the file's base name between `_` is
+-- capitalized,
 -- and the pieces are joined.
 abbrev pub class_name : List ℕ → List ℕ
 class_name name = capitalized name ++ codes "Controller"

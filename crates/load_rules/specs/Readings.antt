@@ -18,13 +18,16 @@ IsReadingOf class bytes (r.Fault at kind) = (why : Why) × NoText bytes at why �
 
 -- the file has the path of a controller, and it is read as its class
 abbrev pub IsFileReading : FileEntry → Reading → Type 0
-IsFileReading file reading = (name : List ℕ) × IsLetters name × (file.path ≡ first_path name) × IsReadingOf (class_name name) file.bytes reading
+IsFileReading file reading = (name : List ℕ) × IsLetters name × (file.path ≡ first_path name)
+    × IsReadingOf (class_name name) file.bytes reading
 
 -- the file and the class are this controller's
 abbrev pub IsAskedOf : (controller action : List ℕ) → Asked → Type 0
-IsAskedOf controller action asked = (asked.path ≡ first_path controller) × (asked.class ≡ class_name controller) × (asked.action.now ≡ action)
+IsAskedOf controller action asked = (asked.path ≡ first_path controller) × (asked.class ≡ class_name controller)
+    × (asked.action.now ≡ action)
 
 -- the reply of a file with the path that is asked for, or no file has it
 abbrev pub IsFoundReply : List FileEntry → Asked → Option Reply → Type 0
 IsFoundReply files asked None = (file : FileEntry) → Contains files file → file.path ≡ asked.path → ⊥
-IsFoundReply files asked (Some reply) = (file : FileEntry) × Contains files file × (file.path ≡ asked.path) × IsFileReply asked.class asked.action.now file reply
+IsFoundReply files asked (Some reply) = (file : FileEntry) × Contains files file × (file.path ≡ asked.path)
+    × IsFileReply asked.class asked.action.now file reply

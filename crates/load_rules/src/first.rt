@@ -1,7 +1,8 @@
 //! Replies on files of the first form.
 ghost use Rattle.std.specs.Prelude.{◌≡◌, ℕ, List, ◌<◌, ◌^◌, length, All, Any, IfOk, OnOk};
 ghost use Rattle.load_rules.specs.FirstForm.{FirstParts, first_tree};
-ghost use Rattle.load_rules.specs.FirstReply.{IsReadable, IsReplyOf, IsFileReply, FirstReply, no_controller_text, no_action_text};
+ghost use Rattle.load_rules.specs.FirstReply.{IsReadable, IsReplyOf, IsFileReply, FirstReply, no_controller_text};
+ghost use Rattle.load_rules.specs.FirstReply.{no_action_text};
 ghost use Rattle.load_rules.specs.Readings.{IsReadingOf, IsAskedOf, IsFoundReply};
 
 use crate::fault::syntax_error;
@@ -40,7 +41,8 @@ fn method_reply(
     action: &[u8],
 ) -> Result<Reply, AllocError>
     requires { (parts : FirstParts) × (tree.now ≡ first_tree class.now parts) }
-    ensures { IfOk result (λ reply. (parts : FirstParts) → tree.now ≡ first_tree class.now parts → IsReplyOf class.now action.now parts reply) }
+    ensures { IfOk result (λ reply. (parts : FirstParts) → tree.now ≡ first_tree class.now parts →
+        IsReplyOf class.now action.now parts reply) }
 {
     match first_method(tree, class) {
         None => unreachable!(),

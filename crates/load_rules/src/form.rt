@@ -35,7 +35,8 @@ fn body_text(body: &[Stmt]) -> Option<&[u8]>
 
 fn method_of(definition: &Def) -> Option<FirstMethod<'_>>
     ensures found { (parts : FirstParts) → definition.now ≡ first_method parts → HasMethod result parts }
-    ensures only { IfSome result (λ method. (parts : FirstParts) × ((definition.now ≡ first_method parts) × IsMethodOf method parts)) }
+    ensures only { IfSome result (λ method. (parts : FirstParts)
+        × ((definition.now ≡ first_method parts) × IsMethodOf method parts)) }
 {
     match definition {
         Def::Method {
@@ -74,7 +75,8 @@ fn is_named(path: &[Text], class: &[u8]) -> bool
 
 fn class_method<'a>(definition: &'a Def, class: &[u8]) -> Option<FirstMethod<'a>>
     ensures found { (parts : FirstParts) → definition.now ≡ first_class class.now parts → HasMethod result parts }
-    ensures only { IfSome result (λ method. (parts : FirstParts) × ((definition.now ≡ first_class class.now parts) × IsMethodOf method parts)) }
+    ensures only { IfSome result (λ method. (parts : FirstParts)
+        × ((definition.now ≡ first_class class.now parts) × IsMethodOf method parts)) }
 {
     match definition {
         Def::Class { path, parent, body }
@@ -91,7 +93,8 @@ fn class_method<'a>(definition: &'a Def, class: &[u8]) -> Option<FirstMethod<'a>
 /// The method of a tree of the first form with this class, and `None` for every other tree.
 pub fn first_method<'a>(tree: &'a FileTree, class: &[u8]) -> Option<FirstMethod<'a>>
     ensures found { (parts : FirstParts) → tree.now ≡ first_tree class.now parts → HasMethod result parts }
-    ensures only { IfSome result (λ method. (parts : FirstParts) × ((tree.now ≡ first_tree class.now parts) × IsMethodOf method parts)) }
+    ensures only { IfSome result (λ method. (parts : FirstParts)
+        × ((tree.now ≡ first_tree class.now parts) × IsMethodOf method parts)) }
 {
     match tree.defs.as_slice() {
         [definition] => class_method(definition, class),

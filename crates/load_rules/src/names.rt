@@ -24,7 +24,8 @@ pub fn is_letters(name: &[u8]) -> bool
 /// The controller whose file has this path: of `app/controllers/hello_controller.rb`, `hello`.
 pub fn first_name(path: &[u8]) -> Option<&[u8]>
     ensures found { IfSome result (λ name. IsLetters name.now × (path.now ≡ first_path name.now)) }
-    ensures only { (name : List ℕ) → IsLetters name → path.now ≡ first_path name → IsSomeAnd result (λ found. found.now ≡ name) }
+    ensures only { (name : List ℕ) → IsLetters name → path.now ≡ first_path name →
+        IsSomeAnd result (λ found. found.now ≡ name) }
 {
     let rest = path.strip_prefix(b"app/controllers/".as_slice())?;
     let name = rest.strip_suffix(b"_controller.rb".as_slice())?;

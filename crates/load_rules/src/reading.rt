@@ -40,7 +40,8 @@ pub enum Reading {
 }
 
 fn read_fault(fault: SyntaxFault) -> Result<Reading, FirstRefusal>
-    ensures read { IfOk result (λ reading. (class bytes : List ℕ) → IsFaultOf bytes fault → IsReadingOf class bytes reading) }
+    ensures read { IfOk result (λ reading. (class bytes : List ℕ) → IsFaultOf bytes fault →
+        IsReadingOf class bytes reading) }
     ensures built { result ≢ Err FirstRefusal.NotBuilt }
 {
     match kind_words(fault.kind) {

@@ -3,8 +3,10 @@ use Rattle.std.proofs.Common.{◌≡◌, ℕ, ◌+◌, ◌-◌, ◌≤◌, List,
 use Rattle.std.proofs.lemmas.List.{take_rest, take_at, take-append-drop, drop-drop}
 
 -- what is left is the piece and what is left behind it
-pub left_by_piece : (bytes copied rest : List ℕ) (taken n : ℕ) → copied ≡ take n (take (length bytes - taken) (drop taken bytes))
-    → n ≤ length (take (length bytes - taken) (drop taken bytes)) → drop taken bytes ≡ take n (copied ++ rest) ++ drop (taken + n) bytes
+pub left_by_piece : (bytes copied rest : List ℕ) (taken n : ℕ) →
+    copied ≡ take n (take (length bytes - taken) (drop taken bytes))
+    → n ≤ length (take (length bytes - taken) (drop taken bytes)) →
+    drop taken bytes ≡ take n (copied ++ rest) ++ drop (taken + n) bytes
 left_by_piece bytes copied rest taken n is fits =
     let is' : copied ≡ take n (drop taken bytes) = rw take_rest at is in
     let fits' : n ≤ length (drop taken bytes) = rw take_rest at fits in

@@ -1,5 +1,7 @@
 -- Files in the order of their paths: places, and that they keep their order.
-use Rattle.std.proofs.Common.{◌≡◌, ℕ, zero, suc, ◌<◌, ◌≤◌, ◌+◌, Bool, true, false, List, [], ◌∷◌, ◌++◌, length, get_or, take, drop, set, filter, HoldsAt, AllPairs, All, refl, ap, sym, ◌∙◌, arith, add-one, inl, inr, ◌⊎◌}
+use Rattle.std.proofs.Common.{◌≡◌, ℕ, zero, suc, ◌<◌, ◌≤◌, ◌+◌, Bool, true, false, List, [], ◌∷◌, ◌++◌, length, get_or}
+use Rattle.std.proofs.Common.{take, drop, set, filter, HoldsAt, AllPairs, All, refl, ap, sym, ◌∙◌, arith, add-one, inl}
+use Rattle.std.proofs.Common.{inr, ◌⊎◌}
 use Rattle.std.specs.Ordering.{ordering_reverse, ordering_index, is_lt, is_gt}
 use Rattle.std.specs.List.{AllWithin, insert, remove}
 use Rattle.std.specs.List.Sorted.{IsNonDecreasingBy, IsPartitionPoint}
@@ -37,21 +39,31 @@ index_at_most Equal = omega arith
 index_at_most Greater = omega arith
 
 -- ---- what passes at the front alone, or at the back alone
-pub filter_front : {X : Type 0} (p : X → Bool) (xs : List X) (i : ℕ) → AllWithin (λ x. p x ≡ true) xs 0 i → AllWithin (λ x. p x ≡ false) xs i (length xs) → filter p xs ≡ take i xs
+pub filter_front : {X : Type 0} (p : X → Bool) (xs : List X) (i : ℕ) → AllWithin (λ x. p x ≡ true) xs 0 i →
+    AllWithin (λ x. p x ≡ false) xs i (length xs) → filter p xs ≡ take i xs
 filter_front p [] zero front back = refl
 filter_front p [] (suc i) front back = refl
 filter_front p (x ∷ xs) zero front back =
-    rw (back 0 x (omega arith) (omega arith)) (filter_front p xs zero (λ k d a b. absurd (omega arith)) (λ k d a b. back (suc k) d (omega arith) (omega arith)))
+    rw (back 0 x (omega arith) (omega arith))
+    (filter_front p xs zero (λ k d a b. absurd (omega arith))
+    (λ k d a b. back (suc k) d (omega arith) (omega arith)))
 filter_front p (x ∷ xs) (suc i) front back =
-    rw (front 0 x (omega arith) (omega arith)) (ap (λ ys. x ∷ ys) (filter_front p xs i (λ k d a b. front (suc k) d (omega arith) (omega arith)) (λ k d a b. back (suc k) d (omega arith) (omega arith))))
+    rw (front 0 x (omega arith) (omega arith))
+    (ap (λ ys. x ∷ ys) (filter_front p xs i (λ k d a b. front (suc k) d (omega arith) (omega arith))
+    (λ k d a b. back (suc k) d (omega arith) (omega arith))))
 
-pub filter_back : {X : Type 0} (p : X → Bool) (xs : List X) (i : ℕ) → AllWithin (λ x. p x ≡ false) xs 0 i → AllWithin (λ x. p x ≡ true) xs i (length xs) → filter p xs ≡ drop i xs
+pub filter_back : {X : Type 0} (p : X → Bool) (xs : List X) (i : ℕ) → AllWithin (λ x. p x ≡ false) xs 0 i →
+    AllWithin (λ x. p x ≡ true) xs i (length xs) → filter p xs ≡ drop i xs
 filter_back p [] zero front back = refl
 filter_back p [] (suc i) front back = refl
 filter_back p (x ∷ xs) zero front back =
-    rw (back 0 x (omega arith) (omega arith)) (ap (λ ys. x ∷ ys) (filter_back p xs zero (λ k d a b. absurd (omega arith)) (λ k d a b. back (suc k) d (omega arith) (omega arith))))
+    rw (back 0 x (omega arith) (omega arith))
+    (ap (λ ys. x ∷ ys) (filter_back p xs zero (λ k d a b. absurd (omega arith))
+    (λ k d a b. back (suc k) d (omega arith) (omega arith))))
 filter_back p (x ∷ xs) (suc i) front back =
-    rw (front 0 x (omega arith) (omega arith)) (filter_back p xs i (λ k d a b. front (suc k) d (omega arith) (omega arith)) (λ k d a b. back (suc k) d (omega arith) (omega arith)))
+    rw (front 0 x (omega arith) (omega arith))
+    (filter_back p xs i (λ k d a b. front (suc k) d (omega arith) (omega arith))
+    (λ k d a b. back (suc k) d (omega arith) (omega arith)))
 
 -- ---- files that rise
 abbrev Follows : FileEntry → FileEntry → Type 0
@@ -61,12 +73,14 @@ Follows f g = IsBefore f.path g.path
 abbrev some_file : List ℕ → FileEntry
 some_file path = record { path = path; bytes = []; stamp = record { length = 0; time = 0 } }
 
-path_at : (files : List FileEntry) (i : ℕ) (path : List ℕ) → i < length files → get_or (paths_of files) i path ≡ (get_or files i (some_file path)).path
+path_at : (files : List FileEntry) (i : ℕ) (path : List ℕ) → i < length files →
+    get_or (paths_of files) i path ≡ (get_or files i (some_file path)).path
 path_at files i path lt = get_or-map (λ f. f.path) files i (some_file path) path lt
 
 pub files_rise : (files : List FileEntry) → Rising (paths_of files) → AllPairs Follows files
 files_rise files rise i j d lt within =
-    let h : IsBefore (get_or (paths_of files) i d.path) (get_or (paths_of files) j d.path) = rise i j d.path lt (simp length-map (omega arith)) in
+    let h : IsBefore (get_or (paths_of files) i d.path) (get_or (paths_of files) j d.path) =
+    rise i j d.path lt (simp length-map (omega arith)) in
     rw (get_or-map (λ f. f.path) files i d d.path (omega arith), get_or-map (λ f. f.path) files j d d.path within) at h
 
 pub paths_rise : (files : List FileEntry) → AllPairs Follows files → Rising (paths_of files)
@@ -76,14 +90,17 @@ paths_rise files rise i j d lt within =
 
 module _ (files : List FileEntry) (path : List ℕ) (rise : Rising (paths_of files)) where
   -- the answers of a comparison with the path rise along the files
-  steps : (a b : List ℕ) (o u : Ordering) → o ≡ order a path → u ≡ order b path → order a b ≡ Less → ordering_index o ≤ ordering_index u
+  steps : (a b : List ℕ) (o u : Ordering) → o ≡ order a path → u ≡ order b path → order a b ≡ Less →
+      ordering_index o ≤ ordering_index u
   steps a b o Less e f h = let l : o ≡ Less = e ∙ nat_list_cmp_total.trans a b path h (sym f) in rw l (omega arith)
-  steps a b o Equal e f h = let same : b ≡ path = exact_bytes b path (sym f) in let l : o ≡ Less = e ∙ (rw same at h) in rw l (omega arith)
+  steps a b o Equal e f h = let same : b ≡ path = exact_bytes b path (sym f) in let l : o ≡ Less = e
+      ∙ (rw same at h) in rw l (omega arith)
   steps a b o Greater e f h = index_at_most o
 
   pub answers_rise : IsNonDecreasingBy (λ f. ordering_index (order f.path path)) files
   answers_rise i j d le within = elim (le_cases i j le) [
-    | inl lt ↦ steps (get_or files i d).path (get_or files j d).path _ _ refl refl (files_rise files rise i j d lt within)
+    | inl lt ↦ steps (get_or files i d).path (get_or files j d).path _ _ refl refl
+        (files_rise files rise i j d lt within)
     | inr e ↦ rw e (omega arith)
   ]
 
@@ -95,7 +112,8 @@ module _ (files : List FileEntry) (path : List ℕ) (rise : Rising (paths_of fil
     below k d lt = let h = files_rise files rise k i d lt within in rw (at_place d) at h
 
     above : (k : ℕ) (d : FileEntry) → i < k → k < length files → order (get_or files k d).path path ≡ Greater
-    above k d lt in' = let h = files_rise files rise i k d lt in' in before_is (get_or files k d).path path (rw (at_place d) at h)
+    above k d lt in' = let h = files_rise files rise i k d lt in' in
+        before_is (get_or files k d).path path (rw (at_place d) at h)
 
     from_place : (k : ℕ) (d : FileEntry) → i ≤ k → k < length files → is_lt (order (get_or files k d).path path) ≡ false
     from_place k d le in' = elim (le_cases i k le) [
@@ -115,11 +133,14 @@ module _ (files : List FileEntry) (path : List ℕ) (rise : Rising (paths_of fil
     pub found_place : IsPlace files path i (i + 1)
     found_place = record {
       within = omega arith;
-      before = filter_front (λ f. is_lt (order f.path path)) files i (λ k d a b. ap is_lt (below k d b)) (λ k d a b. from_place k d a b);
-      after = filter_back (λ f. is_gt (order f.path path)) files (i + 1) (λ k d a b. to_place k d (omega arith)) (λ k d a b. ap is_gt (above k d (omega arith) b));
+      before = filter_front (λ f. is_lt (order f.path path)) files i (λ k d a b. ap is_lt (below k d b))
+          (λ k d a b. from_place k d a b);
+      after = filter_back (λ f. is_gt (order f.path path)) files (i + 1) (λ k d a b. to_place k d (omega arith))
+          (λ k d a b. ap is_gt (above k d (omega arith) b));
     }
 
-  module _ (i : ℕ) (within : i ≤ length files) (is : IsPartitionPoint (λ f. order f.path path ≡ Less) (λ f. order f.path path ≡ Greater) files i) where
+  module _ (i : ℕ) (within : i ≤ length files)
+      (is : IsPartitionPoint (λ f. order f.path path ≡ Less) (λ f. order f.path path ≡ Greater) files i) where
     lt_or : (k n : ℕ) → (k < n) ⊎ (n ≤ k)
     lt_or k zero = inr (omega arith)
     lt_or zero (suc n) = inl (omega arith)
@@ -131,23 +152,29 @@ module _ (files : List FileEntry) (path : List ℕ) (rise : Rising (paths_of fil
         let e : (get_or files has.0 (some_file path)).path ≡ path = sym (path_at files has.0 path lt) ∙ has.2 in
         elim (lt_or has.0 i) [
           | inl a ↦ let h = is.0 has.0 (some_file path) (omega arith) a in not_before_itself path (rw e at h)
-          | inr a ↦ let h = is.1 has.0 (some_file path) a lt in let g : order path path ≡ Greater = rw e at h in not_before_itself path (after_is path path g)
+          | inr a ↦ let h = is.1 has.0 (some_file path) a lt in let g : order path path ≡ Greater = rw e at h in
+              not_before_itself path (after_is path path g)
         ]
 
     pub missing_place : IsPlace files path i i
     missing_place = record {
       within = within;
-      before = filter_front (λ f. is_lt (order f.path path)) files i (λ k d a b. ap is_lt (is.0 k d a b)) (λ k d a b. ap is_lt (is.1 k d a b));
-      after = filter_back (λ f. is_gt (order f.path path)) files i (λ k d a b. ap is_gt (is.0 k d a b)) (λ k d a b. ap is_gt (is.1 k d a b));
+      before = filter_front (λ f. is_lt (order f.path path)) files i (λ k d a b. ap is_lt (is.0 k d a b))
+          (λ k d a b. ap is_lt (is.1 k d a b));
+      after = filter_back (λ f. is_gt (order f.path path)) files i (λ k d a b. ap is_gt (is.0 k d a b))
+          (λ k d a b. ap is_gt (is.1 k d a b));
     }
 
 -- ---- the order is kept
-AllPairs-append : {X : Type 0} (R : X → X → Type 0) (xs ys : List X) → AllPairs R xs → AllPairs R ys → All (λ x. All (R x) ys) xs → AllPairs R (xs ++ ys)
+AllPairs-append : {X : Type 0} (R : X → X → Type 0) (xs ys : List X) → AllPairs R xs → AllPairs R ys →
+    All (λ x. All (R x) ys) xs → AllPairs R (xs ++ ys)
 AllPairs-append R [] ys front back across = back
 AllPairs-append R (x ∷ xs) ys front back across =
     AllPairs-cons R x (xs ++ ys)
-    (All-append (R x) xs ys (λ k d lt. front 0 (suc k) d (omega arith) (omega arith)) (All-head (λ z. All (R z) ys) x xs across))
-    (AllPairs-append R xs ys (λ i j d a b. front (suc i) (suc j) d (omega arith) (omega arith)) back (λ k d lt. across (suc k) d (omega arith)))
+    (All-append (R x) xs ys (λ k d lt. front 0 (suc k) d (omega arith) (omega arith))
+    (All-head (λ z. All (R z) ys) x xs across))
+    (AllPairs-append R xs ys (λ i j d a b. front (suc i) (suc j) d (omega arith) (omega arith)) back
+    (λ k d lt. across (suc k) d (omega arith)))
 
 lt_is : (o : Ordering) → is_lt o ≡ true → o ≡ Less
 lt_is Less h = refl
@@ -161,14 +188,19 @@ gt_is Greater h = refl
 
 module _ (files : List FileEntry) (path : List ℕ) where
   pub all_before : All (λ f. IsBefore f.path path) (files_before path files)
-  all_before = All-weaker (λ f. is_lt (order f.path path) ≡ true) (λ f. IsBefore f.path path) (λ f h. lt_is (order f.path path) h) (files_before path files) (filter_passes (λ f. is_lt (order f.path path)) files)
+  all_before = All-weaker (λ f. is_lt (order f.path path) ≡ true) (λ f. IsBefore f.path path)
+      (λ f h. lt_is (order f.path path) h) (files_before path files)
+      (filter_passes (λ f. is_lt (order f.path path)) files)
 
   pub all_after : All (λ f. IsBefore path f.path) (files_after path files)
-  all_after = All-weaker (λ f. is_gt (order f.path path) ≡ true) (λ f. IsBefore path f.path) (λ f h. after_is f.path path (gt_is (order f.path path) h)) (files_after path files) (filter_passes (λ f. is_gt (order f.path path)) files)
+  all_after = All-weaker (λ f. is_gt (order f.path path) ≡ true) (λ f. IsBefore path f.path)
+      (λ f h. after_is f.path path (gt_is (order f.path path) h)) (files_after path files)
+      (filter_passes (λ f. is_gt (order f.path path)) files)
 
   across_path : All (λ f. All (Follows f) (files_after path files)) (files_before path files)
   across_path = All-weaker (λ f. IsBefore f.path path) (λ f. All (Follows f) (files_after path files))
-      (λ f h. All-weaker (λ g. IsBefore path g.path) (Follows f) (λ g l. nat_list_cmp_total.trans f.path path g.path h l) (files_after path files) all_after)
+      (λ f h. All-weaker (λ g. IsBefore path g.path) (Follows f)
+      (λ g l. nat_list_cmp_total.trans f.path path g.path h l) (files_after path files) all_after)
       (files_before path files) all_before
 
   pub without_rises : Rising (paths_of files) → Rising (paths_of (without_file path files))
@@ -178,26 +210,33 @@ module _ (files : List FileEntry) (path : List ℕ) where
       (AllPairs-filter Follows (λ f. is_gt (order f.path path)) files (files_rise files rise))
       across_path)
 
-pub with_rises : (files : List FileEntry) (file : FileEntry) → Rising (paths_of files) → Rising (paths_of (with_file file files))
+pub with_rises : (files : List FileEntry) (file : FileEntry) → Rising (paths_of files) →
+    Rising (paths_of (with_file file files))
 with_rises files file rise = paths_rise (with_file file files)
     (AllPairs-append Follows (files_before file.path files) (file ∷ files_after file.path files)
     (AllPairs-filter Follows (λ f. is_lt (order f.path file.path)) files (files_rise files rise))
-    (AllPairs-cons Follows file (files_after file.path files) (all_after files file.path) (AllPairs-filter Follows (λ f. is_gt (order f.path file.path)) files (files_rise files rise)))
-    (λ k d lt. All-cons (Follows (get_or (files_before file.path files) k d)) file (files_after file.path files) (all_before files file.path k d lt) (across_path files file.path k d lt)))
+    (AllPairs-cons Follows file (files_after file.path files) (all_after files file.path)
+    (AllPairs-filter Follows (λ f. is_gt (order f.path file.path)) files (files_rise files rise)))
+    (λ k d lt. All-cons (Follows (get_or (files_before file.path files) k d)) file (files_after file.path files)
+    (all_before files file.path k d lt) (across_path files file.path k d lt)))
 
 -- ---- what a write at a place makes
-pub set_at_place : (files : List FileEntry) (file : FileEntry) (i : ℕ) → IsPlace files file.path i (i + 1) → set files i file ≡ with_file file files
+pub set_at_place : (files : List FileEntry) (file : FileEntry) (i : ℕ) → IsPlace files file.path i (i + 1) →
+    set files i file ≡ with_file file files
 set_at_place files file i place =
     let after : files_after file.path files ≡ drop (suc i) files = rw add-one at place.after in
     rw (place.before, after) (set_split files i file (let h = place.within in omega arith))
 
-pub insert_at_place : (files : List FileEntry) (file : FileEntry) (i : ℕ) → IsPlace files file.path i i → insert files i file ≡ with_file file files
+pub insert_at_place : (files : List FileEntry) (file : FileEntry) (i : ℕ) → IsPlace files file.path i i →
+    insert files i file ≡ with_file file files
 insert_at_place files file i place = rw (place.before, place.after) refl
 
-pub remove_at_place : (files : List FileEntry) (path : List ℕ) (i : ℕ) → IsPlace files path i (i + 1) → remove files i ≡ without_file path files
+pub remove_at_place : (files : List FileEntry) (path : List ℕ) (i : ℕ) → IsPlace files path i (i + 1) →
+    remove files i ≡ without_file path files
 remove_at_place files path i place =
     let after : files_after path files ≡ drop (suc i) files = rw add-one at place.after in
     rw (place.before, after) refl
 
-pub none_at_place : (files : List FileEntry) (path : List ℕ) (i : ℕ) → IsPlace files path i i → files ≡ without_file path files
+pub none_at_place : (files : List FileEntry) (path : List ℕ) (i : ℕ) → IsPlace files path i i →
+    files ≡ without_file path files
 none_at_place files path i place = rw (place.before, place.after) (sym (take-append-drop i files))

@@ -10,9 +10,12 @@ given_of glance = record { stamps = stamps_of glance.files; snapshot = cond glan
 
 -- this file is held, or was held when something was given
 abbrev pub IsSeen : (held : List FileEntry) → (glances : List Glance) → FileEntry → Type 0
-IsSeen held glances file = Contains held file ⊎ ((glance : Glance) × Contains glances glance × Contains glance.files file)
+IsSeen held glances file = Contains held file
+    ⊎ ((glance : Glance) × Contains glances glance × Contains glance.files file)
 
--- Each seen file has the number of the write that made it as its time: no later number was given, and a number says which bytes were written.
+-- Each seen file has the number of the write that made it as its time: no later number was given, and a number says
+-- which bytes were written.
 pub record IsNumbered (held : List FileEntry) (glances : List Glance) (writes : ℕ) : Type 0 where
   pub numbered : (f : FileEntry) → IsSeen held glances f → f.stamp.time ≤ writes
-  pub unique : (f g : FileEntry) → IsSeen held glances f → IsSeen held glances g → f.stamp.time ≡ g.stamp.time → f.bytes ≡ g.bytes
+  pub unique : (f g : FileEntry) → IsSeen held glances f → IsSeen held glances g → f.stamp.time ≡ g.stamp.time →
+      f.bytes ≡ g.bytes

@@ -27,7 +27,8 @@ empty_tree fails = record {
 
 -- a file as the write with this number makes it
 abbrev pub file_written : (path bytes : List ℕ) → (number : ℕ) → FileEntry
-file_written path bytes number = record { path = path; bytes = bytes; stamp = record { length = length bytes; time = number } }
+file_written path bytes number =
+    record { path = path; bytes = bytes; stamp = record { length = length bytes; time = number } }
 
 abbrev pub with_held : FileEntry → TreeState → TreeState
 with_held file tree = record {

@@ -15,7 +15,8 @@ FitsRoom (Got n) room = (1 ≤ n) × (n ≤ room)
 FitsRoom End room = ⊤
 FitsRoom Failed room = ⊤
 
--- Got(n) takes the first n bytes that were left, and they stand at the beginning of the slice. End and Failed take nothing.
+-- Got(n) takes the first n bytes that were left, and they stand at the beginning of the slice. End and Failed take
+-- nothing.
 abbrev pub Takes : ReadAns → (slice : List ℕ) → (before now : Option (List ℕ)) → Type 0
 Takes (Got n) slice before now = before ≡ prefixed (take n slice) now
 Takes End slice before now = now ≡ before

@@ -18,7 +18,8 @@ pub record Given : Type 0 where
 
 -- this file is held, or it is in a snapshot that was given
 abbrev pub IsKnown : (held : List FileEntry) → (given : List Given) → FileEntry → Type 0
-IsKnown held given file = Contains held file ⊎ Any (λ item. IsSomeAnd item.snapshot (λ files. Contains files file)) given
+IsKnown held given file = Contains held file
+    ⊎ Any (λ item. IsSomeAnd item.snapshot (λ files. Contains files file)) given
 
 -- Equal stamps mean equal contents: two known files of one path and one stamp have the same bytes.
 abbrev pub AgreesOnStamps : (held : Option (List FileEntry)) → (given : Option (List Given)) → Type 0

@@ -10,7 +10,8 @@ use crate::files::{CallNumbers, FileBytes};
 use crate::streams::Source;
 use std::marker::Model;
 
-/// A source in memory, which gives its bytes in pieces of a greatest size and fails at the calls with the given numbers.
+/// A source in memory, which gives its bytes in pieces of a greatest size and fails at the calls with the given
+/// numbers.
 #[derive(Drop)]
 pub struct MemSource {
     bytes: FileBytes,

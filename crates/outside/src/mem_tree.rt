@@ -1,4 +1,5 @@
-ghost use Rattle.std.specs.Prelude.{◌≡◌, ◌↔◌, ◌⊎◌, ◌+◌, [], ◌∷◌, map, length, Some, None, cond, is_some, refl, IsTrue, IfOk, OnOk, OnErr};
+ghost use Rattle.std.specs.Prelude.{◌≡◌, ◌↔◌, ◌⊎◌, ◌+◌, [], ◌∷◌, map, length, Some, None, cond, is_some, refl, IsTrue};
+ghost use Rattle.std.specs.Prelude.{IfOk, OnOk, OnErr};
 ghost use Rattle.outside.specs.Faults.{Counts};
 ghost use Rattle.outside.specs.Told.{appended};
 ghost use Rattle.outside.specs.Calls.{IsDue};
@@ -183,7 +184,8 @@ impl MemTree {
     fn give_stamps(&mut self) -> Result<Stamps, AllocError>
         ensures stamps { IfOk result (λ stamps. stamps ≡ stamps_of self.old.held) }
         ensures watched { ListsWatched (paths_of self.old.held) }
-        ensures ok { IfOk result (λ stamps. self.new ≡ after_giving (record { stamps = stamps; snapshot = None } ∷ []) self.old) }
+        ensures ok { IfOk result
+            (λ stamps. self.new ≡ after_giving (record { stamps = stamps; snapshot = None } ∷ []) self.old) }
         ensures err { OnErr result (self.new ≡ self.old) }
         ensures agrees { AgreesOnStamps (Some self.new.held) (Some self.new.given) }
     {

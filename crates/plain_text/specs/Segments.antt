@@ -1,4 +1,5 @@
--- The segments of a path stand around its slashes (47), as the parts of Ruby's `path.split("/", -1)` do; the empty path has one.
+-- The segments of a path stand around its slashes (47), as the parts of Ruby's `path.split("/", -1)` do; the empty
+-- path has one.
 use Rattle.std.specs.Prelude.{ℕ, List, [], ◌≡◌, ◌≢◌, ◌==◌}
 use Rattle.std.specs.List.{All, slice_split, join_with_byte}
 

@@ -10,7 +10,8 @@ use std::alloc::{AllocError, Global};
 pub fn segments(alloc: Global, path: &[u8]) -> Result<TextList, AllocError>
     ensures exact { IfOk result (λ pieces. pieces ≡ spec.segments path.now) }
     ensures segments { IfOk result (λ pieces. spec.AreSegments path.now pieces) }
-    ensures only { IfOk result (λ pieces. (others : List (List ℕ)) → spec.AreSegments path.now others → others ≡ pieces) }
+    ensures only { IfOk result (λ pieces. (others : List (List ℕ)) → spec.AreSegments path.now others →
+        others ≡ pieces) }
 {
     let mut pieces = TextList::new(alloc);
     for piece in cut(alloc, path)?.as_slice() {

@@ -1,15 +1,24 @@
 -- What is barred begins a statement all the same; and what a path's end looks at.
-use Rattle.std.proofs.Common.{◌≡◌, ◌⊎◌, inl, inr, Bool, true, false, ◌||◌, ◌&&◌, List, [], ◌∷◌, Option, Some, None, refl, sym, subst, if◌then◌else◌}
+use Rattle.std.proofs.Common.{◌≡◌, ◌⊎◌, inl, inr, Bool, true, false, ◌||◌, ◌&&◌, List, [], ◌∷◌, Option, Some, None}
+use Rattle.std.proofs.Common.{refl, sym, subst, if◌then◌else◌}
 use Rattle.ruby_types.specs.declared.tree.Expr.{Expr}
-use Rattle.descent.specs.Grammar.{Prod, give, token, mark, Among, first, later, Is, is_given, is_word, is_marked, Item, word, marked, only}
+use Rattle.descent.specs.Grammar.{Prod, give, token, mark, Among, first, later, Is, is_given, is_word, is_marked, Item}
+use Rattle.descent.specs.Grammar.{word, marked, only}
 use Rattle.descent.specs.Reading.{Choice, take, too_deep, barred, nothing, choose}
 use Rattle.descent.specs.Lawful.{BeginsWith, CanBegin}
 use Rattle.descent.proofs.Lists.{same_others}
 use Rattle.descent.proofs.Complete.{extend, alone}
 use Rattle.ruby_grammar.specs.Words.{Word}
 use Rattle.ruby_grammar.specs.Marks.{Mark}
-use Rattle.ruby_grammar.specs.Signs.{units, products, sums, comparisons, equalities, conjunctions, disjunctions, is_variable, is_ivar, is_assign, is_return, is_raise, is_path}
-use Rattle.ruby_grammar.specs.Rules.{ruby, Val, Name, Sort, Rule, Around, Scope, a_statement, some_names, file, definitions, more_definitions, definition, path_rest, parent, constant, heading, parameter_list, parameters, more_parameters, more_readers, statements, more_statements, statement, simple_statement, condition_behind, then_or_line, perhaps_line, arms_rest, perhaps_expression, expression, choice_rest, operators, more_operators, unary, postfix, more_postfix, primary, name_rest, perhaps_arguments, members, more_members, pairs, more_pairs, pair, text_parts}
+use Rattle.ruby_grammar.specs.Signs.{units, products, sums, comparisons, equalities, conjunctions, disjunctions}
+use Rattle.ruby_grammar.specs.Signs.{is_variable, is_ivar, is_assign, is_return, is_raise, is_path}
+use Rattle.ruby_grammar.specs.Rules.{ruby, Val, Name, Sort, Rule, Around, Scope, a_statement, some_names, file}
+use Rattle.ruby_grammar.specs.Rules.{definitions, more_definitions, definition, path_rest, parent, constant, heading}
+use Rattle.ruby_grammar.specs.Rules.{parameter_list, parameters, more_parameters, more_readers, statements}
+use Rattle.ruby_grammar.specs.Rules.{more_statements, statement, simple_statement, condition_behind, then_or_line}
+use Rattle.ruby_grammar.specs.Rules.{perhaps_line, arms_rest, perhaps_expression, expression, choice_rest, operators}
+use Rattle.ruby_grammar.specs.Rules.{more_operators, unary, postfix, more_postfix, primary, name_rest}
+use Rattle.ruby_grammar.specs.Rules.{perhaps_arguments, members, more_members, pairs, more_pairs, pair, text_parts}
 use Rattle.ruby_grammar.specs.Language.{forms, ruby_grammar}
 use Rattle.ruby_grammar.specs.Choices.{next_is, pick, ruby_choices, pick_set_ivar}
 use Rattle.ruby_grammar.specs.Follow.{looks, begins_plain}
@@ -28,47 +37,72 @@ postfix_of : (here : Scope) (w : Word) (x : Expr) → Alone (primary here) w x �
 postfix_of here w x a = alone ruby_grammar first (extend ruby_grammar a (more_postfix_end here x).2)
 
 unary_of : (here : Scope) (w : Word) (x : Expr) → Alone (primary here) w x → Alone (unary here) w x
-unary_of here w x a = alone ruby_grammar (among_behind (e.opening here.levels (e.not_from here)) (among_behind (e.opening here.levels (e.minus_from here)) first)) (postfix_of here w x a)
+unary_of here w x a = alone ruby_grammar
+    (among_behind (e.opening here.levels (e.not_from here))
+    (among_behind (e.opening here.levels (e.minus_from here)) first)) (postfix_of here w x a)
 
 units_of : (here : Scope) (w : Word) (x : Expr) → Alone (primary here) w x → Alone (operators units here) w x
 units_of here w x a = alone ruby_grammar first (unary_of here w x a)
 
 products_of : (here : Scope) (w : Word) (x : Expr) → Alone (primary here) w x → Alone (operators products here) w x
-products_of here w x a = alone ruby_grammar first (extend ruby_grammar (units_of here w x a) (more_operators_end products here x).2)
+products_of here w x a =
+    alone ruby_grammar first (extend ruby_grammar (units_of here w x a) (more_operators_end products here x).2)
 
 sums_of : (here : Scope) (w : Word) (x : Expr) → Alone (primary here) w x → Alone (operators sums here) w x
-sums_of here w x a = alone ruby_grammar first (extend ruby_grammar (products_of here w x a) (more_operators_end sums here x).2)
+sums_of here w x a = alone ruby_grammar first
+    (extend ruby_grammar (products_of here w x a) (more_operators_end sums here x).2)
 
-comparisons_of : (here : Scope) (w : Word) (x : Expr) → Alone (primary here) w x → Alone (operators comparisons here) w x
-comparisons_of here w x a = alone ruby_grammar first (extend ruby_grammar (sums_of here w x a) (more_operators_end comparisons here x).2)
+comparisons_of : (here : Scope) (w : Word) (x : Expr) → Alone (primary here) w x →
+    Alone (operators comparisons here) w x
+comparisons_of here w x a =
+    alone ruby_grammar first (extend ruby_grammar (sums_of here w x a) (more_operators_end comparisons here x).2)
 
 equalities_of : (here : Scope) (w : Word) (x : Expr) → Alone (primary here) w x → Alone (operators equalities here) w x
-equalities_of here w x a = alone ruby_grammar first (extend ruby_grammar (comparisons_of here w x a) (more_operators_end equalities here x).2)
+equalities_of here w x a =
+    alone ruby_grammar first (extend ruby_grammar (comparisons_of here w x a) (more_operators_end equalities here x).2)
 
-conjunctions_of : (here : Scope) (w : Word) (x : Expr) → Alone (primary here) w x → Alone (operators conjunctions here) w x
-conjunctions_of here w x a = alone ruby_grammar first (extend ruby_grammar (equalities_of here w x a) (more_operators_end conjunctions here x).2)
+conjunctions_of : (here : Scope) (w : Word) (x : Expr) → Alone (primary here) w x →
+    Alone (operators conjunctions here) w x
+conjunctions_of here w x a =
+    alone ruby_grammar first (extend ruby_grammar (equalities_of here w x a) (more_operators_end conjunctions here x).2)
 
-disjunctions_of : (here : Scope) (w : Word) (x : Expr) → Alone (primary here) w x → Alone (operators disjunctions here) w x
-disjunctions_of here w x a = alone ruby_grammar first (extend ruby_grammar (conjunctions_of here w x a) (more_operators_end disjunctions here x).2)
+disjunctions_of : (here : Scope) (w : Word) (x : Expr) → Alone (primary here) w x →
+    Alone (operators disjunctions here) w x
+disjunctions_of here w x a =
+    alone ruby_grammar first
+    (extend ruby_grammar (conjunctions_of here w x a) (more_operators_end disjunctions here x).2)
 
 choice_of : (here : Scope) (x : Expr) → Is ruby_grammar _ (only (choice_rest here x)) [] x
 choice_of here x = alone ruby_grammar (later first) is_given
 
 expression_of : (here : Scope) (w : Word) (x : Expr) → Alone (primary here) w x → Alone (expression here) w x
-expression_of here w x a = alone ruby_grammar first (extend ruby_grammar (disjunctions_of here w x a) (choice_of here x))
+expression_of here w x a =
+    alone ruby_grammar first (extend ruby_grammar (disjunctions_of here w x a) (choice_of here x))
 
 ivar_alone : (here : Scope) (w : Word) → is_ivar w ≡ true → (x : Expr) × Alone (primary here) w x
-ivar_alone here w h = (_, alone ruby_grammar (later (later (later (later (later (later (later (later first)))))))) (is_word h is_given))
+ivar_alone here w h = (
+  _,
+  alone ruby_grammar (later (later (later (later (later (later (later (later first))))))))
+      (is_word h is_given),
+)
 
 begins_ivar : (here : Around) (w : Word) → is_ivar w ≡ true → BeginsWith ruby_grammar (simple_statement here) w
 begins_ivar here w h =
-    let a = ivar_alone (s.scope_of here) w h in
-    ([], _, alone ruby_grammar (later (later (later (among_behind (s.where_it_may here.sets (s.setting_ivar here)) first)))) (extend ruby_grammar (expression_of (s.scope_of here) w a.0 a.1) is_given))
+    let a = ivar_alone (s.scope_of here) w h in (
+      [],
+      _,
+      alone ruby_grammar
+          (later (later (later (among_behind (s.where_it_may here.sets (s.setting_ivar here)) first))))
+          (extend ruby_grammar (expression_of (s.scope_of here) w a.0 a.1) is_given),
+    )
 
 -- ---- what is barred
 
 pub bar_of : (b c d f : Bool) (here : Around) →
-    (if b then take (s.returning here) else (if c then take (s.raising here) else (if d then take (s.setting here) else (if f then pick_set_ivar here.sets here else take (s.evaluating here))))) ≡ barred → f ≡ true
+    (if b then take (s.returning here) else
+    (if c then take (s.raising here) else
+    (if d then take (s.setting here) else
+    (if f then pick_set_ivar here.sets here else take (s.evaluating here))))) ≡ barred → f ≡ true
 bar_of true c d f here h = cc
 bar_of false true d f here h = cc
 bar_of false false true f here h = cc
@@ -79,12 +113,16 @@ or_second : (a b : Bool) → b ≡ true → (a || b) ≡ true
 or_second true b h = refl
 or_second false b h = h
 
-bar_simple : (here : Around) (w : Word) (b : Option Word) → pick (simple_statement here) (Some w) b ≡ barred → ((is_variable w || is_ivar w) ≡ true) × BeginsWith ruby_grammar (simple_statement here) w
+bar_simple : (here : Around) (w : Word) (b : Option Word) → pick (simple_statement here) (Some w) b ≡ barred →
+    ((is_variable w || is_ivar w) ≡ true) × BeginsWith ruby_grammar (simple_statement here) w
 bar_simple here w b h =
-    let i = (and_true (is_ivar w) (next_is is_assign b) (bar_of (is_return w) (is_raise w) (is_variable w && next_is is_assign b) (is_ivar w && next_is is_assign b) here h)).0 in
+    let i = (and_true (is_ivar w) (next_is is_assign b)
+    (bar_of (is_return w) (is_raise w) (is_variable w && next_is is_assign b) (is_ivar w && next_is is_assign b)
+    here h)).0 in
     (or_second (is_variable w) (is_ivar w) i, begins_ivar here w i)
 
-pub bars : {t : Sort} (rule : Rule t) (w : Word) (b : Option Word) → pick rule (Some w) b ≡ barred → (looks rule (Some w) ≡ true) × BeginsWith ruby_grammar rule w
+pub bars : {t : Sort} (rule : Rule t) (w : Word) (b : Option Word) → pick rule (Some w) b ≡ barred →
+    (looks rule (Some w) ≡ true) × BeginsWith ruby_grammar rule w
 bars (simple_statement here) w b h = bar_simple here w b h
 bars (file levels anywhere) w b h = absurd (barred_is (file levels anywhere) (Some w) b h)
 bars (definitions here ds) w b h = absurd (barred_is (definitions here ds) (Some w) b h)
@@ -104,7 +142,8 @@ bars (statement here) w b h = absurd (barred_is (statement here) (Some w) b h)
 bars (condition_behind levels t) w b h = absurd (barred_is (condition_behind levels t) (Some w) b h)
 bars then_or_line w b h = absurd (barred_is then_or_line (Some w) b h)
 bars perhaps_line w b h = absurd (barred_is perhaps_line (Some w) b h)
-bars (arms_rest levels sets may_elsif arms c) w b h = absurd (barred_is (arms_rest levels sets may_elsif arms c) (Some w) b h)
+bars (arms_rest levels sets may_elsif arms c) w b h =
+    absurd (barred_is (arms_rest levels sets may_elsif arms c) (Some w) b h)
 bars (perhaps_expression here) w b h = absurd (barred_is (perhaps_expression here) (Some w) b h)
 bars (expression here) w b h = absurd (barred_is (expression here) (Some w) b h)
 bars (choice_rest here x) w b h = absurd (barred_is (choice_rest here x) (Some w) b h)
@@ -141,10 +180,15 @@ settled_if false c d h k = k
 
 settled : (here : Around) (a b : Option Word) → Settled (pick (simple_statement here) a b)
 settled here a b =
-    settled_if (next_is is_return a) _ _ tt (settled_if (next_is is_raise a) _ _ tt (settled_if (next_is is_variable a && next_is is_assign b) _ _ tt (settled_if (next_is is_ivar a && next_is is_assign b) _ _ (set_settled here.sets here) tt)))
+    settled_if (next_is is_return a) _ _ tt
+    (settled_if (next_is is_raise a) _ _ tt
+    (settled_if (next_is is_variable a && next_is is_assign b) _ _ tt
+    (settled_if (next_is is_ivar a && next_is is_assign b) _ _ (set_settled here.sets here) tt)))
 
-pub one_word_stops : {t : Sort} (rule : Rule t) (w : Word) (b : Option Word) → looks rule (Some w) ≡ true → (pick rule (Some w) b ≡ too_deep → ⊥) × (pick rule (Some w) b ≡ nothing → ⊥)
-one_word_stops (simple_statement here) w b h = (λ e. subst (λ c. Settled c) e (settled here (Some w) b), λ e. subst (λ c. Settled c) e (settled here (Some w) b))
+pub one_word_stops : {t : Sort} (rule : Rule t) (w : Word) (b : Option Word) → looks rule (Some w) ≡ true →
+    (pick rule (Some w) b ≡ too_deep → ⊥) × (pick rule (Some w) b ≡ nothing → ⊥)
+one_word_stops (simple_statement here) w b h =
+    (λ e. subst (λ c. Settled c) e (settled here (Some w) b), λ e. subst (λ c. Settled c) e (settled here (Some w) b))
 one_word_stops (file levels anywhere) w b h = cc
 one_word_stops (definitions here ds) w b h = cc
 one_word_stops (more_definitions here ds) w b h = cc
@@ -184,27 +228,40 @@ one_word_stops (text_parts here double parts) w b h = cc
 
 -- ---- the end of a parent's path
 
-token_first : (test : Word → Bool) (next : Word → Prod ruby some_names) (us ts : List (Item ruby)) (x : List Name) (m : Mark) → Is ruby_grammar some_names (token test next) us x → us ≡ marked m ∷ ts → ⊥
+token_first : (test : Word → Bool) (next : Word → Prod ruby some_names) (us ts : List (Item ruby)) (x : List Name)
+    (m : Mark) → Is ruby_grammar some_names (token test next) us x → us ≡ marked m ∷ ts → ⊥
 token_first test next us ts x m (is_word t a) e = cc
 
-mark_alone : (m n : Mark) (names x : List Name) (us ts : List (Item ruby)) → Is ruby_grammar some_names (mark m (give names)) us x → us ≡ marked n ∷ ts → ts ≡ []
+mark_alone : (m n : Mark) (names x : List Name) (us ts : List (Item ruby)) →
+    Is ruby_grammar some_names (mark m (give names)) us x → us ≡ marked n ∷ ts → ts ≡ []
 mark_alone m n names x us ts (is_marked is_given) e = sym (same_others (marked m) (marked n) [] ts e)
 
-path_goes_on : (m : Mark) (names : List Name) (w : Word) → is_path w ≡ true → BeginsWith ruby_grammar (path_rest true (Some m) names) w
-path_goes_on m names w h = (word const_word ∷ marked m ∷ [], _, alone ruby_grammar first (is_word h (is_word refl (alone ruby_grammar (later first) (is_marked is_given)))))
+path_goes_on : (m : Mark) (names : List Name) (w : Word) → is_path w ≡ true →
+    BeginsWith ruby_grammar (path_rest true (Some m) names) w
+path_goes_on m names w h = (
+  word const_word ∷ marked m ∷ [],
+  _,
+  alone ruby_grammar first (is_word h (is_word refl (alone ruby_grammar (later first) (is_marked is_given)))),
+)
 
-path_ready : (m : Mark) (names : List Name) (w : Word) (ws : List Word) (b : Bool) → is_path w ≡ b → (choose ruby_choices (path_rest true (Some m) names) (w ∷ ws) ≡ take (mark m (give names))) ⊎ CanBegin ruby_grammar (path_rest true (Some m) names) (w ∷ ws)
+path_ready : (m : Mark) (names : List Name) (w : Word) (ws : List Word) (b : Bool) → is_path w ≡ b →
+    (choose ruby_choices (path_rest true (Some m) names) (w ∷ ws) ≡ take (mark m (give names)))
+    ⊎ CanBegin ruby_grammar (path_rest true (Some m) names) (w ∷ ws)
 path_ready m names w ws true h = inr (path_goes_on m names w h)
 path_ready m names w ws false h = inl (rw h refl)
 
-path_marked : (m : Mark) (names : List Name) (ws : List Word) → (choose ruby_choices (path_rest true (Some m) names) ws ≡ take (mark m (give names))) ⊎ CanBegin ruby_grammar (path_rest true (Some m) names) ws
+path_marked : (m : Mark) (names : List Name) (ws : List Word) →
+    (choose ruby_choices (path_rest true (Some m) names) ws ≡ take (mark m (give names)))
+    ⊎ CanBegin ruby_grammar (path_rest true (Some m) names) ws
 path_marked m names [] = inl refl
 path_marked m names (w ∷ ws) = path_ready m names w ws (is_path w) refl
 
-pub marked_rule : {t : Sort} (rule : Rule t) (p : Prod ruby t) (m : Mark) (ts : List (Item ruby)) (x : Val t) → Among p (forms rule) → begins_plain rule ≡ false → Is ruby_grammar t p (marked m ∷ ts) x →
+pub marked_rule : {t : Sort} (rule : Rule t) (p : Prod ruby t) (m : Mark) (ts : List (Item ruby)) (x : Val t) →
+    Among p (forms rule) → begins_plain rule ≡ false → Is ruby_grammar t p (marked m ∷ ts) x →
     (ts ≡ []) × ((ws : List Word) → (choose ruby_choices rule ws ≡ take p) ⊎ CanBegin ruby_grammar rule ws)
 marked_rule (path_rest true (Some n) names) p m ts x first h a = absurd (token_first _ _ _ ts x m a refl)
-marked_rule (path_rest true (Some n) names) p m ts x (later first) h a = (mark_alone n m names x _ ts a refl, path_marked n names)
+marked_rule (path_rest true (Some n) names) p m ts x (later first) h a =
+    (mark_alone n m names x _ ts a refl, path_marked n names)
 marked_rule (path_rest false (Some n) names) p m ts x first h a = (mark_alone n m names x _ ts a refl, λ ws. inl refl)
 marked_rule (path_rest true (Some n) names) p m ts v (later (later am)) h a = elim am [ ]
 marked_rule (path_rest false (Some n) names) p m ts v (later am) h a = elim am [ ]

@@ -1,4 +1,5 @@
--- The rules beside each rule: of one level more, or where `@x =` may stand in any method. They have the same productions, and more.
+-- The rules beside each rule: of one level more, or where `@x =` may stand in any method. They have the same
+-- productions, and more.
 use Rattle.std.proofs.Common.{ℕ, suc, Bool, true, false, List, Option, Some, None}
 use Rattle.ruby_types.specs.declared.tree.Expr.{Expr}
 use Rattle.ruby_types.specs.declared.tree.Stmt.{Stmt}
@@ -6,7 +7,13 @@ use Rattle.descent.specs.Grammar.{Prod}
 use Rattle.descent.proofs.Lifts.{Lift, Up, up_give, up_token, up_call, up_mark}
 use Rattle.ruby_grammar.specs.Marks.{Mark}
 use Rattle.ruby_grammar.specs.Signs.{Level, units, products, sums, comparisons, equalities, conjunctions, disjunctions}
-use Rattle.ruby_grammar.specs.Rules.{ruby, Sort, Rule, Name, Body, Around, Scope, Block, file, definitions, more_definitions, definition, path_rest, parent, constant, heading, parameter_list, parameters, more_parameters, more_readers, statements, more_statements, statement, simple_statement, condition_behind, then_or_line, perhaps_line, arms_rest, perhaps_expression, expression, choice_rest, operators, more_operators, unary, postfix, more_postfix, primary, name_rest, perhaps_arguments, members, more_members, pairs, more_pairs, pair, text_parts}
+use Rattle.ruby_grammar.specs.Rules.{ruby, Sort, Rule, Name, Body, Around, Scope, Block, file, definitions}
+use Rattle.ruby_grammar.specs.Rules.{more_definitions, definition, path_rest, parent, constant, heading, parameter_list}
+use Rattle.ruby_grammar.specs.Rules.{parameters, more_parameters, more_readers, statements, more_statements, statement}
+use Rattle.ruby_grammar.specs.Rules.{simple_statement, condition_behind, then_or_line, perhaps_line, arms_rest}
+use Rattle.ruby_grammar.specs.Rules.{perhaps_expression, expression, choice_rest, operators, more_operators, unary}
+use Rattle.ruby_grammar.specs.Rules.{postfix, more_postfix, primary, name_rest, perhaps_arguments, members}
+use Rattle.ruby_grammar.specs.Rules.{more_members, pairs, more_pairs, pair, text_parts}
 use Rattle.ruby_grammar.specs.Expressions as e
 use Rattle.ruby_grammar.specs.Statements as s
 use Rattle.ruby_grammar.specs.Definitions as d
@@ -89,13 +96,17 @@ Same m {t} p q = Up (ruby_lift m) t p q
 
 -- ---- productions that stand in more than one place, or look at what there is more of
 
-pub module_same : (m : More) (here : Body) (n : ℕ) → Same m (d.module_from here n) (d.module_from (body_with m here) (levels_with m n))
-module_same m here n = up_token λ w t. up_token λ v u. up_call λ path. up_token λ v u. up_mark (up_call λ ds. up_token λ v u. up_give)
+pub module_same : (m : More) (here : Body) (n : ℕ) →
+    Same m (d.module_from here n) (d.module_from (body_with m here) (levels_with m n))
+module_same m here n = up_token λ w t. up_token λ v u. up_call λ path. up_token λ v u.
+    up_mark (up_call λ ds. up_token λ v u. up_give)
 
-pub class_same : (m : More) (here : Body) (n : ℕ) → Same m (d.class_from here n) (d.class_from (body_with m here) (levels_with m n))
+pub class_same : (m : More) (here : Body) (n : ℕ) →
+    Same m (d.class_from here n) (d.class_from (body_with m here) (levels_with m n))
 class_same m here n = up_token λ w t. up_token λ v u. up_call λ path. up_call λ p. up_call λ ds. up_token λ v u. up_give
 
-pub method_same : (m : More) (here : Body) (n : ℕ) → Same m (d.method_from here n) (d.method_from (body_with m here) (levels_with m n))
+pub method_same : (m : More) (here : Body) (n : ℕ) →
+    Same m (d.method_from here n) (d.method_from (body_with m here) (levels_with m n))
 method_same a_level here n = up_token λ w t. up_call λ h. up_call λ names. up_call λ b. up_token λ v u. up_give
 method_same settings here n = up_token λ w t. up_call λ h. up_call λ names. up_call λ b. up_token λ v u. up_give
 
@@ -108,14 +119,18 @@ include_same m = up_token λ w t. up_call λ c. up_give
 pub readers_same : (m : More) (here : Body) → Same m (d.readers_from here) (d.readers_from (body_with m here))
 readers_same m here = up_token λ w t. up_token λ v u. up_mark (up_call λ names. up_give)
 
-pub arm_same : (m : More) (levels : ℕ) (sets may_elsif : Bool) (condition : Expr → Expr) (names : List Name) (arms : List (Expr × List Stmt)) →
-    Same m (s.arm_from levels sets may_elsif condition names arms) (s.arm_from (levels_with m levels) (flag_with m sets) may_elsif condition names arms)
+pub arm_same : (m : More) (levels : ℕ) (sets may_elsif : Bool) (condition : Expr → Expr) (names : List Name)
+    (arms : List (Expr × List Stmt)) →
+    Same m (s.arm_from levels sets may_elsif condition names arms)
+    (s.arm_from (levels_with m levels) (flag_with m sets) may_elsif condition names arms)
 arm_same m levels sets may_elsif condition names arms = up_call λ x. up_call λ y. up_call λ b. up_call λ z. up_give
 
-pub else_same : (m : More) (levels : ℕ) (sets : Bool) (arms : List (Expr × List Stmt)) (b : Block) → Same m (s.else_more levels sets arms b) (s.else_more (levels_with m levels) (flag_with m sets) arms b)
+pub else_same : (m : More) (levels : ℕ) (sets : Bool) (arms : List (Expr × List Stmt)) (b : Block) →
+    Same m (s.else_more levels sets arms b) (s.else_more (levels_with m levels) (flag_with m sets) arms b)
 else_same m levels sets arms b = up_token λ w t. up_call λ y. up_call λ c. up_token λ v u. up_give
 
-pub operator_same : (m : More) (level : Level) (here : Scope) (x : Expr) → Same m (e.operator_more level here x) (e.operator_more level (scope_with m here) x)
+pub operator_same : (m : More) (level : Level) (here : Scope) (x : Expr) →
+    Same m (e.operator_more level here x) (e.operator_more level (scope_with m here) x)
 operator_same m units here x = up_token λ w t. up_call λ y. up_call λ z. up_give
 operator_same m products here x = up_token λ w t. up_call λ y. up_call λ z. up_give
 operator_same m sums here x = up_token λ w t. up_call λ y. up_call λ z. up_give
@@ -124,7 +139,8 @@ operator_same m equalities here x = up_token λ w t. up_call λ y. up_give
 operator_same m conjunctions here x = up_token λ w t. up_call λ y. up_call λ z. up_give
 operator_same m disjunctions here x = up_token λ w t. up_call λ y. up_call λ z. up_give
 
-pub operators_same : (m : More) (level : Level) (here : Scope) → Same m (e.operators_from level here) (e.operators_from level (scope_with m here))
+pub operators_same : (m : More) (level : Level) (here : Scope) →
+    Same m (e.operators_from level here) (e.operators_from level (scope_with m here))
 operators_same m units here = up_call λ y. up_give
 operators_same m products here = up_call λ y. up_call λ z. up_give
 operators_same m sums here = up_call λ y. up_call λ z. up_give
@@ -133,18 +149,22 @@ operators_same m equalities here = up_call λ y. up_call λ z. up_give
 operators_same m conjunctions here = up_call λ y. up_call λ z. up_give
 operators_same m disjunctions here = up_call λ y. up_call λ z. up_give
 
-pub end_same : (m : More) (ending : Option Mark) (names : List Name) → Same m (e.path_end ending names) (e.path_end ending names)
+pub end_same : (m : More) (ending : Option Mark) (names : List Name) →
+    Same m (e.path_end ending names) (e.path_end ending names)
 end_same m None names = up_give
 end_same m (Some n) names = up_mark up_give
 
 pub text_same : (m : More) (here : Scope) → Same m (e.text_from here) (e.text_from (scope_with m here))
 text_same m here = up_token λ w t. up_call λ parts. up_token λ v u. up_give
 
-pub call_same : (m : More) (here : Scope) (x : Expr) → Same m (e.method_call here x) (e.method_call (scope_with m here) x)
+pub call_same : (m : More) (here : Scope) (x : Expr) →
+    Same m (e.method_call here x) (e.method_call (scope_with m here) x)
 call_same m here x = up_token λ w t. up_token λ v u. up_call λ y. up_call λ z. up_give
 
-pub index_same : (m : More) (here : Scope) (x : Expr) (n : ℕ) → Same m (e.index_from here x n) (e.index_from (scope_with m here) x (levels_with m n))
+pub index_same : (m : More) (here : Scope) (x : Expr) (n : ℕ) →
+    Same m (e.index_from here x n) (e.index_from (scope_with m here) x (levels_with m n))
 index_same m here x n = up_token λ w t. up_call λ y. up_token λ v u. up_call λ z. up_give
 
-pub choice_same : (m : More) (here : Scope) (x : Expr) → Same m (e.choice_more here x) (e.choice_more (scope_with m here) x)
+pub choice_same : (m : More) (here : Scope) (x : Expr) →
+    Same m (e.choice_more here x) (e.choice_more (scope_with m here) x)
 choice_same m here x = up_token λ w t. up_call λ y. up_token λ v u. up_call λ z. up_give

@@ -8,7 +8,13 @@ use Rattle.descent.proofs.Complete.{extend, alone}
 use Rattle.ruby_grammar.specs.Words.{Word}
 use Rattle.ruby_grammar.specs.Marks.{Mark}
 use Rattle.ruby_grammar.specs.Signs.{Level, units, products, sums, comparisons, equalities, conjunctions, disjunctions}
-use Rattle.ruby_grammar.specs.Rules.{ruby, Val, Name, Known, Sort, Rule, Body, Around, Scope, file, definitions, more_definitions, definition, path_rest, parent, constant, heading, parameter_list, parameters, more_parameters, more_readers, statements, more_statements, statement, simple_statement, condition_behind, then_or_line, perhaps_line, arms_rest, perhaps_expression, expression, choice_rest, operators, more_operators, unary, postfix, more_postfix, primary, name_rest, perhaps_arguments, members, more_members, pairs, more_pairs, pair, text_parts}
+use Rattle.ruby_grammar.specs.Rules.{ruby, Val, Name, Known, Sort, Rule, Body, Around, Scope, file, definitions}
+use Rattle.ruby_grammar.specs.Rules.{more_definitions, definition, path_rest, parent, constant, heading, parameter_list}
+use Rattle.ruby_grammar.specs.Rules.{parameters, more_parameters, more_readers, statements, more_statements, statement}
+use Rattle.ruby_grammar.specs.Rules.{simple_statement, condition_behind, then_or_line, perhaps_line, arms_rest}
+use Rattle.ruby_grammar.specs.Rules.{perhaps_expression, expression, choice_rest, operators, more_operators, unary}
+use Rattle.ruby_grammar.specs.Rules.{postfix, more_postfix, primary, name_rest, perhaps_arguments, members}
+use Rattle.ruby_grammar.specs.Rules.{more_members, pairs, more_pairs, pair, text_parts}
 use Rattle.ruby_grammar.specs.Language.{forms, ruby_grammar}
 use Rattle.ruby_grammar.specs.Expressions as e
 use Rattle.ruby_grammar.specs.Statements as s
@@ -33,7 +39,8 @@ primary_end : (here : Scope) → End (primary here)
 primary_end here = (word (a_word k.Int []) ∷ [], _, alone ruby_grammar first (is_word refl is_given))
 
 abbrev pub more_postfix_end : (here : Scope) (x : Expr) → End (more_postfix here x)
-more_postfix_end here x = nothing_said (more_postfix here x) x (later (among_behind (e.opening here.levels (e.index_from here x)) first))
+more_postfix_end here x = nothing_said (more_postfix here x) x
+    (later (among_behind (e.opening here.levels (e.index_from here x)) first))
 
 postfix_end : (here : Scope) → End (postfix here)
 postfix_end here =
@@ -43,8 +50,13 @@ postfix_end here =
 
 unary_end : (here : Scope) → End (unary here)
 unary_end here =
-    let a = postfix_end here in
-    (a.0, a.1, alone ruby_grammar (among_behind (e.opening here.levels (e.not_from here)) (among_behind (e.opening here.levels (e.minus_from here)) first)) a.2)
+    let a = postfix_end here in (
+      a.0,
+      a.1,
+      alone ruby_grammar
+          (among_behind (e.opening here.levels (e.not_from here))
+          (among_behind (e.opening here.levels (e.minus_from here)) first)) a.2,
+    )
 
 abbrev pub more_operators_end : (level : Level) (here : Scope) (x : Expr) → End (more_operators level here x)
 more_operators_end units here x = nothing_said (more_operators units here x) x first
@@ -119,8 +131,13 @@ path_end false (Some m) names = (marked m ∷ [], names, alone ruby_grammar firs
 
 simple_end : (here : Around) → End (simple_statement here)
 simple_end here =
-    let a = expression_end (s.scope_of here) in
-    (a.0 ++ [], _, alone ruby_grammar (later (later (later (among_behind (s.where_it_may here.sets (s.setting_ivar here)) first)))) (extend ruby_grammar a.2 is_given))
+    let a = expression_end (s.scope_of here) in (
+      a.0 ++ [],
+      _,
+      alone ruby_grammar
+          (later (later (later (among_behind (s.where_it_may here.sets (s.setting_ivar here)) first))))
+          (extend ruby_grammar a.2 is_given),
+    )
 
 condition_end : (levels : ℕ) (t : Known) → End (condition_behind levels t)
 condition_end levels t = nothing_said (condition_behind levels t) t (later (later first))
@@ -133,18 +150,28 @@ statement_end here =
 
 definition_end : (here : Body) → End (definition here)
 definition_end here =
-    let a = expression_end (s.scope here.levels []) in
-    (word const_word ∷ word (an_op op.Assign) ∷ marked _ ∷ (a.0 ++ []), _, alone ruby_grammar first (is_word refl (is_word refl (is_marked (extend ruby_grammar a.2 is_given)))))
+    let a = expression_end (s.scope here.levels []) in (
+      word const_word ∷ word (an_op op.Assign) ∷ marked _ ∷ (a.0 ++ []),
+      _,
+      alone ruby_grammar first (is_word refl (is_word refl (is_marked (extend ruby_grammar a.2 is_given)))),
+    )
 
 constant_end : (ending : Option Mark) → End (constant ending)
 constant_end ending =
-    let a = path_end true ending ([] ∷ []) in
-    (word const_word ∷ (a.0 ++ []), _, alone ruby_grammar (later first) (is_word refl (extend ruby_grammar a.2 is_given)))
+    let a = path_end true ending ([] ∷ []) in (
+      word const_word ∷ (a.0 ++ []),
+      _,
+      alone ruby_grammar (later first)
+          (is_word refl (extend ruby_grammar a.2 is_given)),
+    )
 
 pair_end : (here : Scope) → End (pair here)
 pair_end here =
-    let a = expression_end here in
-    (word (a_word k.Label []) ∷ (a.0 ++ []), _, alone ruby_grammar first (is_word refl (extend ruby_grammar a.2 is_given)))
+    let a = expression_end here in (
+      word (a_word k.Label []) ∷ (a.0 ++ []),
+      _,
+      alone ruby_grammar first (is_word refl (extend ruby_grammar a.2 is_given)),
+    )
 
 file_end : (levels : ℕ) (anywhere : Bool) → End (file levels anywhere)
 file_end levels anywhere =
@@ -157,10 +184,12 @@ ends_rule (definitions here ds) = nothing_said (definitions here ds) ds (later f
 ends_rule (more_definitions here ds) = nothing_said (more_definitions here ds) ds (later first)
 ends_rule (definition here) = definition_end here
 ends_rule (path_rest more ending names) = path_end more ending names
-ends_rule (parent path at) = (word line_word ∷ marked _ ∷ [], None, alone ruby_grammar (later first) (is_word refl (is_marked is_given)))
+ends_rule (parent path at) =
+    (word line_word ∷ marked _ ∷ [], None, alone ruby_grammar (later first) (is_word refl (is_marked is_given)))
 ends_rule (constant ending) = constant_end ending
 ends_rule heading = (word (a_word k.Name (120 ∷ [])) ∷ [], _, alone ruby_grammar (later first) (is_word refl is_given))
-ends_rule (parameter_list levels m) = (word line_word ∷ marked m ∷ [], [], alone ruby_grammar first (is_word refl (is_marked is_given)))
+ends_rule (parameter_list levels m) =
+    (word line_word ∷ marked m ∷ [], [], alone ruby_grammar first (is_word refl (is_marked is_given)))
 ends_rule parameters = nothing_said parameters [] (later first)
 ends_rule (more_parameters names) = nothing_said (more_parameters names) names (later first)
 ends_rule (more_readers path names) = nothing_said (more_readers path names) names (later first)
@@ -171,7 +200,8 @@ ends_rule (simple_statement here) = simple_end here
 ends_rule (condition_behind levels t) = condition_end levels t
 ends_rule then_or_line = (word line_word ∷ [], tt, alone ruby_grammar (later first) (is_word refl is_given))
 ends_rule perhaps_line = nothing_said perhaps_line tt (later first)
-ends_rule (arms_rest levels sets may_elsif arms b) = (word (a_word k.Name (101 ∷ 110 ∷ 100 ∷ [])) ∷ [], _, alone ruby_grammar first (is_word refl is_given))
+ends_rule (arms_rest levels sets may_elsif arms b) =
+    (word (a_word k.Name (101 ∷ 110 ∷ 100 ∷ [])) ∷ [], _, alone ruby_grammar first (is_word refl is_given))
 ends_rule (perhaps_expression here) = nothing_said (perhaps_expression here) None (later first)
 ends_rule (expression here) = expression_end here
 ends_rule (choice_rest here x) = nothing_said (choice_rest here x) x (later first)
@@ -181,11 +211,14 @@ ends_rule (unary here) = unary_end here
 ends_rule (postfix here) = postfix_end here
 ends_rule (more_postfix here x) = more_postfix_end here x
 ends_rule (primary here) = primary_end here
-ends_rule (name_rest here name) = nothing_said (name_rest here name) _ (among_behind (e.opening here.levels (e.call_from here name)) first)
-ends_rule (perhaps_arguments here) = nothing_said (perhaps_arguments here) [] (among_behind (e.opening here.levels (e.arguments_from here)) first)
+ends_rule (name_rest here name) = nothing_said (name_rest here name) _
+    (among_behind (e.opening here.levels (e.call_from here name)) first)
+ends_rule (perhaps_arguments here) = nothing_said (perhaps_arguments here) []
+    (among_behind (e.opening here.levels (e.arguments_from here)) first)
 ends_rule (members here xs) = nothing_said (members here xs) xs (later first)
 ends_rule (more_members here xs) = nothing_said (more_members here xs) xs (later first)
 ends_rule (pairs here ps) = nothing_said (pairs here ps) ps (later first)
 ends_rule (more_pairs here ps) = nothing_said (more_pairs here ps) ps (later first)
 ends_rule (pair here) = pair_end here
-ends_rule (text_parts here double parts) = nothing_said (text_parts here double parts) parts (later (among_behind (e.opening here.levels (e.inside_from here double parts)) first))
+ends_rule (text_parts here double parts) = nothing_said (text_parts here double parts) parts
+    (later (among_behind (e.opening here.levels (e.inside_from here double parts)) first))

@@ -26,13 +26,17 @@ found ws x ms a = t.found ruby_grammar ruby_choices ruby_follow lawful whole ref
 pub read : (ws : List Word) (x : FileTree) → IsFile ws x → (ms : List Mark) × ReadsFile ws (done x ms [])
 read ws x a = t.read ruby_grammar ruby_choices ruby_follow lawful whole refl ws x a
 
-pub stop_is_no_file : (ws : List Word) (x : FileTree) (o : Outcome ruby a_tree) → ReadsFile ws o → IsStop o → IsFile ws x → ⊥
+pub stop_is_no_file : (ws : List Word) (x : FileTree) (o : Outcome ruby a_tree) → ReadsFile ws o → IsStop o →
+    IsFile ws x → ⊥
 stop_is_no_file ws x o a h b = t.stop_spells_none ruby_grammar ruby_choices ruby_follow lawful whole refl ws x o a h b
 
-pub twice_is_no_file : (ws rest : List Word) (x : FileTree) (m : Mark) → ReadsFile ws (fault (Twice m) rest) → IsFile ws x → ⊥
-twice_is_no_file ws rest x m a b = t.twice_spells_none ruby_grammar ruby_choices ruby_follow lawful whole refl ws rest x m a b
+pub twice_is_no_file : (ws rest : List Word) (x : FileTree) (m : Mark) → ReadsFile ws (fault (Twice m) rest) →
+    IsFile ws x → ⊥
+twice_is_no_file ws rest x m a b = t.twice_spells_none ruby_grammar ruby_choices ruby_follow lawful whole refl ws
+    rest x m a b
 
-pub stops : (ws : List Word) (o : Outcome ruby a_tree) → ReadsFile ws o → IsStop o → Stops ruby_grammar whole ws (rest_of o)
+pub stops : (ws : List Word) (o : Outcome ruby a_tree) → ReadsFile ws o → IsStop o →
+    Stops ruby_grammar whole ws (rest_of o)
 stops ws o a h = t.stops ruby_grammar ruby_choices ruby_follow lawful whole refl ws o a h
 
 pub no_clash : (ws : List Word) (o : Outcome ruby a_tree) → ReadsFile ws o → IsStop o → NoClash ruby_grammar whole ws

@@ -5,10 +5,21 @@ use Rattle.ruby_types.specs.declared.tree.Stmt.{Stmt}
 use Rattle.descent.specs.Grammar.{Prod, Among}
 use Rattle.descent.proofs.Starts.{Firsts, Starts}
 use Rattle.ruby_grammar.specs.Words.{Word}
-use Rattle.ruby_grammar.specs.Signs.{Level, units, products, sums, comparisons, equalities, conjunctions, disjunctions, is_variable, is_name, is_self, is_less, is_line, is_path, is_const, is_open_paren, is_return, is_raise, is_then, is_end, is_else, is_elsif, is_label, is_if, is_unless, is_int, is_text_open, is_sym, is_nil, is_true, is_false, is_ivar, is_open_bracket, is_open_brace, is_not, is_minus}
-use Rattle.ruby_grammar.specs.Rules.{ruby, Sort, Rule, Body, Around, Scope, Block, file, definitions, more_definitions, definition, path_rest, parent, constant, heading, parameter_list, parameters, more_parameters, more_readers, statements, more_statements, statement, simple_statement, condition_behind, then_or_line, perhaps_line, arms_rest, perhaps_expression, expression, choice_rest, operators, more_operators, unary, postfix, more_postfix, primary, name_rest, perhaps_arguments, members, more_members, pairs, more_pairs, pair, text_parts}
+use Rattle.ruby_grammar.specs.Signs.{Level, units, products, sums, comparisons, equalities, conjunctions, disjunctions}
+use Rattle.ruby_grammar.specs.Signs.{is_variable, is_name, is_self, is_less, is_line, is_path, is_const, is_open_paren}
+use Rattle.ruby_grammar.specs.Signs.{is_return, is_raise, is_then, is_end, is_else, is_elsif, is_label, is_if}
+use Rattle.ruby_grammar.specs.Signs.{is_unless, is_int, is_text_open, is_sym, is_nil, is_true, is_false, is_ivar}
+use Rattle.ruby_grammar.specs.Signs.{is_open_bracket, is_open_brace, is_not, is_minus}
+use Rattle.ruby_grammar.specs.Rules.{ruby, Sort, Rule, Body, Around, Scope, Block, file, definitions, more_definitions}
+use Rattle.ruby_grammar.specs.Rules.{definition, path_rest, parent, constant, heading, parameter_list, parameters}
+use Rattle.ruby_grammar.specs.Rules.{more_parameters, more_readers, statements, more_statements, statement}
+use Rattle.ruby_grammar.specs.Rules.{simple_statement, condition_behind, then_or_line, perhaps_line, arms_rest}
+use Rattle.ruby_grammar.specs.Rules.{perhaps_expression, expression, choice_rest, operators, more_operators, unary}
+use Rattle.ruby_grammar.specs.Rules.{postfix, more_postfix, primary, name_rest, perhaps_arguments, members}
+use Rattle.ruby_grammar.specs.Rules.{more_members, pairs, more_pairs, pair, text_parts}
 use Rattle.ruby_grammar.specs.Language.{forms}
-use Rattle.ruby_grammar.specs.Choices.{starts_expression, starts_statement, starts_pair, starts_definition, starts_top, starts_member}
+use Rattle.ruby_grammar.specs.Choices.{starts_expression, starts_statement, starts_pair, starts_definition, starts_top}
+use Rattle.ruby_grammar.specs.Choices.{starts_member}
 use Rattle.ruby_grammar.specs.Expressions as e
 use Rattle.ruby_grammar.specs.Statements as s
 use Rattle.ruby_grammar.specs.Definitions as d
@@ -17,7 +28,8 @@ use Rattle.ruby_grammar.proofs.Tools.{Each, each_among, each_append, each_openin
 -- what an expression begins with, but `!` and `-`
 abbrev pub starts_primary : Word → Bool
 starts_primary w =
-    is_int w || is_text_open w || is_sym w || is_nil w || is_true w || is_false w || is_self w || is_name w || is_ivar w || is_path w || is_const w
+    is_int w || is_text_open w || is_sym w || is_nil w || is_true w || is_false w || is_self w || is_name w ||
+    is_ivar w || is_path w || is_const w
     || is_open_bracket w || is_open_brace w || is_open_paren w
 
 abbrev pub starts_simple : Word → Bool
@@ -65,7 +77,8 @@ ruby_firsts = record { first = first_of_rule; solid = is_solid }
 abbrev All : {t : Sort} → (Word → Bool) → List (Prod ruby t) → Type 0
 All q ps = Each (λ p. Starts ruby_firsts q p) ps
 
-by_opening : {t : Sort} (q : Word → Bool) (levels : ℕ) (f : ℕ → Prod ruby t) → ((n : ℕ) → Starts ruby_firsts q (f n)) → All q (e.opening levels f)
+by_opening : {t : Sort} (q : Word → Bool) (levels : ℕ) (f : ℕ → Prod ruby t) →
+    ((n : ℕ) → Starts ruby_firsts q (f n)) → All q (e.opening levels f)
 by_opening q levels f h = each_opening (λ p. Starts ruby_firsts q p) levels f h
 
 both : {t : Sort} (q : Word → Bool) (ps qs : List (Prod ruby t)) → All q ps → All q qs → All q (ps ++ qs)
@@ -98,9 +111,20 @@ primary_all here = (
                 (
                   λ w t. rw (sign_is 52 w t) refl,
                   (
-                    (refl, λ w h. elim (or_true (is_path w) (is_const w) h) [ inl t ↦ rw (sign_is 86 w t) refl | inr t ↦ rw (sign_is 51 w t) refl ]),
-                    both starts_primary (e.opening here.levels (e.array_from here)) _ (by_opening starts_primary here.levels (e.array_from here) (λ n w t. rw (sign_is 93 w t) refl))
-                        (both starts_primary (e.opening here.levels (e.hash_from here)) _ (by_opening starts_primary here.levels (e.hash_from here) (λ n w t. rw (sign_is 95 w t) refl)) (by_opening starts_primary here.levels (e.group_from here) (λ n w t. rw (sign_is 91 w t) refl))),
+                    (
+                      refl,
+                      λ w h. elim (or_true (is_path w) (is_const w) h) [
+                        | inl t ↦ rw (sign_is 86 w t) refl
+                        | inr t ↦ rw (sign_is 51 w t) refl
+                      ],
+                    ),
+                    both starts_primary (e.opening here.levels (e.array_from here)) _
+                        (by_opening starts_primary here.levels (e.array_from here) (λ n w t. rw (sign_is 93 w t) refl))
+                        (both starts_primary (e.opening here.levels (e.hash_from here)) _
+                        (by_opening starts_primary here.levels (e.hash_from here)
+                        (λ n w t. rw (sign_is 95 w t) refl))
+                        (by_opening starts_primary here.levels (e.group_from here)
+                        (λ n w t. rw (sign_is 91 w t) refl))),
                   ),
                 ),
               ),
@@ -114,8 +138,17 @@ primary_all here = (
 
 unary_all : (here : Scope) → All starts_expression (e.unary_forms here)
 unary_all here =
-    both starts_expression (e.opening here.levels (e.not_from here)) _ (by_opening starts_expression here.levels (e.not_from here) (λ n w t. rw (sign_is 72 w t) refl))
-    (both starts_expression (e.opening here.levels (e.minus_from here)) _ (by_opening starts_expression here.levels (e.minus_from here) (λ n w t. rw (sign_is 80 w t) refl)) ((refl, λ w h. or_first (starts_primary w || is_not w) (is_minus w) (or_first (starts_primary w) (is_not w) h)), tt))
+    both starts_expression (e.opening here.levels (e.not_from here)) _
+    (by_opening starts_expression here.levels (e.not_from here) (λ n w t. rw (sign_is 72 w t) refl))
+    (both starts_expression (e.opening here.levels (e.minus_from here)) _
+    (by_opening starts_expression here.levels (e.minus_from here) (λ n w t. rw (sign_is 80 w t) refl)) (
+      (
+        refl,
+        λ w h. or_first (starts_primary w || is_not w) (is_minus w)
+            (or_first (starts_primary w) (is_not w) h),
+      ),
+      tt,
+    ))
 
 operators_all : (level : Level) (here : Scope) → All starts_expression (e.operators_forms level here)
 operators_all units here = ((refl, λ w h. h), tt)
@@ -138,7 +171,8 @@ set_all true here = (λ w t. rw (sign_is 52 w t) refl, tt)
 set_all false here = tt
 
 expression_is_simple : (w : Word) → starts_expression w ≡ true → starts_simple w ≡ true
-expression_is_simple w h = or_first (starts_expression w || is_return w) (is_raise w) (or_first (starts_expression w) (is_return w) h)
+expression_is_simple w h = or_first (starts_expression w || is_return w) (is_raise w)
+    (or_first (starts_expression w) (is_return w) h)
 
 simple_all : (here : Around) → All starts_simple (s.simple_statement_forms here)
 simple_all here = (
@@ -147,7 +181,8 @@ simple_all here = (
     λ w t. rw (sign_is 15 w t) refl,
     (
       λ w t. setting_starts w t,
-      both starts_simple (s.where_it_may here.sets (s.setting_ivar here)) _ (set_all here.sets here) ((refl, λ w h. expression_is_simple w h), tt),
+      both starts_simple (s.where_it_may here.sets (s.setting_ivar here)) _ (set_all here.sets here)
+          ((refl, λ w h. expression_is_simple w h), tt),
     ),
   ),
 )
@@ -155,7 +190,8 @@ simple_all here = (
 simple_is_statement : (w : Word) → starts_simple w ≡ true → starts_statement w ≡ true
 simple_is_statement w h = elim (or_true (starts_expression w || is_return w) (is_raise w) h) [
   | inl t ↦ elim (or_true (starts_expression w) (is_return w) t) [
-    | inl u ↦ or_first (starts_expression w || is_return w || is_raise w || is_if w) (is_unless w) (or_first (starts_expression w || is_return w || is_raise w) (is_if w)
+    | inl u ↦ or_first (starts_expression w || is_return w || is_raise w || is_if w) (is_unless w)
+        (or_first (starts_expression w || is_return w || is_raise w) (is_if w)
         (or_first (starts_expression w || is_return w) (is_raise w) (or_first (starts_expression w) (is_return w) u)))
     | inr u ↦ rw (sign_is 10 w u) refl
   ]
@@ -165,28 +201,40 @@ simple_is_statement w h = elim (or_true (starts_expression w || is_return w) (is
 statement_all : (here : Around) → All starts_statement (s.statement_forms here)
 statement_all here = (
   (refl, λ w h. simple_is_statement w h),
-  both starts_statement (e.opening here.levels (s.if_from here)) _ (by_opening starts_statement here.levels (s.if_from here) (λ n w t. rw (sign_is 5 w t) refl))
+  both starts_statement (e.opening here.levels (s.if_from here)) _
+      (by_opening starts_statement here.levels (s.if_from here) (λ n w t. rw (sign_is 5 w t) refl))
       (by_opening starts_statement here.levels (s.unless_from here) (λ n w t. rw (sign_is 8 w t) refl)),
 )
 
-elsif_all : (may_elsif : Bool) (levels : ℕ) (sets : Bool) (arms : List (Expr × List Stmt)) (b : Block) → All (λ w. is_end w || is_else w || is_elsif w) (s.elsif_forms levels sets may_elsif arms b)
+elsif_all : (may_elsif : Bool) (levels : ℕ) (sets : Bool) (arms : List (Expr × List Stmt)) (b : Block) →
+    All (λ w. is_end w || is_else w || is_elsif w) (s.elsif_forms levels sets may_elsif arms b)
 elsif_all true levels sets arms b = (λ w t. rw (sign_is 6 w t) refl, tt)
 elsif_all false levels sets arms b = tt
 
-branch_all : (closed : Bool) (levels : ℕ) (sets may_elsif : Bool) (arms : List (Expr × List Stmt)) (b : Block) → All (λ w. is_end w || is_else w || is_elsif w) (s.branch_forms closed levels sets may_elsif arms b)
+branch_all : (closed : Bool) (levels : ℕ) (sets may_elsif : Bool) (arms : List (Expr × List Stmt)) (b : Block) →
+    All (λ w. is_end w || is_else w || is_elsif w) (s.branch_forms closed levels sets may_elsif arms b)
 branch_all true levels sets may_elsif arms b = (λ w t. rw (sign_is 7 w t) refl, elsif_all may_elsif levels sets arms b)
 branch_all false levels sets may_elsif arms b = tt
 
-member_all : (top : Bool) (here : Body) → All (λ w. starts_top w || (not top && starts_member w)) (d.member_forms top here)
+member_all : (top : Bool) (here : Body) →
+    All (λ w. starts_top w || (not top && starts_member w)) (d.member_forms top here)
 member_all true here = tt
-member_all false here =
-    (λ w t. rw (sign_is 16 w t) refl, (λ w t. rw (sign_is 17 w t) refl, by_opening (λ w. starts_top w || (not false && starts_member w)) here.levels (d.method_from here) (λ n w t. rw (sign_is 3 w t) refl)))
+member_all false here = (
+  λ w t. rw (sign_is 16 w t) refl,
+  (
+    λ w t. rw (sign_is 17 w t) refl,
+    by_opening (λ w. starts_top w || (not false && starts_member w))
+        here.levels (d.method_from here) (λ n w t. rw (sign_is 3 w t) refl),
+  ),
+)
 
 definition_all : (here : Body) → All (starts_definition here.path) (d.definition_forms here)
 definition_all here = (
   λ w t. rw (sign_is 51 w t) refl,
-  both (starts_definition here.path) (e.opening here.levels (d.module_from here) ++ e.opening here.levels (d.class_from here)) _
-      (both (starts_definition here.path) (e.opening here.levels (d.module_from here)) _ (by_opening (starts_definition here.path) here.levels (d.module_from here) (λ n w t. rw (sign_is 1 w t) refl))
+  both (starts_definition here.path)
+      (e.opening here.levels (d.module_from here) ++ e.opening here.levels (d.class_from here)) _
+      (both (starts_definition here.path) (e.opening here.levels (d.module_from here)) _
+      (by_opening (starts_definition here.path) here.levels (d.module_from here) (λ n w t. rw (sign_is 1 w t) refl))
       (by_opening (starts_definition here.path) here.levels (d.class_from here) (λ n w t. rw (sign_is 2 w t) refl)))
       (member_all (d.at_top here.path) here),
 )
@@ -196,12 +244,18 @@ all_rule (definition here) h = definition_all here
 all_rule (parent path at) h = (λ w t. rw (sign_is 75 w t) refl, (λ w t. rw (sign_is 50 w t) refl, tt))
 all_rule (constant ending) h = (λ w t. rw (sign_is 86 w t) refl, (λ w t. rw (sign_is 51 w t) refl, tt))
 all_rule heading h = (λ w t. rw (sign_is 11 w t) refl, (λ w t. rw (sign_is 0 w t) refl, tt))
-all_rule (parameter_list levels m) h = (λ w t. rw (sign_is 50 w t) refl, by_opening (λ w. is_line w || is_open_paren w) levels (d.parameters_from m) (λ n w t. rw (sign_is 91 w t) refl))
+all_rule (parameter_list levels m) h = (
+  λ w t. rw (sign_is 50 w t) refl,
+  by_opening (λ w. is_line w || is_open_paren w) levels (d.parameters_from m)
+      (λ n w t. rw (sign_is 91 w t) refl),
+)
 all_rule (statement here) h = statement_all here
 all_rule (simple_statement here) h = simple_all here
 all_rule then_or_line h = (λ w t. rw (sign_is 9 w t) refl, (λ w t. rw (sign_is 50 w t) refl, tt))
-all_rule (arms_rest levels sets may_elsif arms b) h = (λ w t. rw (sign_is 4 w t) refl, branch_all b.closed levels sets may_elsif arms b)
-all_rule (pair here) h = (λ w t. rw (sign_is 53 w t) refl, ((refl, λ w h. or_second (is_label w) (starts_expression w) h), tt))
+all_rule (arms_rest levels sets may_elsif arms b) h =
+    (λ w t. rw (sign_is 4 w t) refl, branch_all b.closed levels sets may_elsif arms b)
+all_rule (pair here) h =
+    (λ w t. rw (sign_is 53 w t) refl, ((refl, λ w h. or_second (is_label w) (starts_expression w) h), tt))
 all_rule (expression here) h = ((refl, λ w h. h), tt)
 all_rule (operators level here) h = operators_all level here
 all_rule (unary here) h = unary_all here
@@ -230,5 +284,6 @@ all_rule (pairs here ps) h = cc
 all_rule (more_pairs here ps) h = cc
 all_rule (text_parts here double parts) h = cc
 
-pub starts_law : {t : Sort} (rule : Rule t) (p : Prod ruby t) → Among p (forms rule) → is_solid rule ≡ true → Starts ruby_firsts (first_of_rule rule) p
+pub starts_law : {t : Sort} (rule : Rule t) (p : Prod ruby t) → Among p (forms rule) → is_solid rule ≡ true →
+    Starts ruby_firsts (first_of_rule rule) p
 starts_law rule p am h = each_among (λ q. Starts ruby_firsts (first_of_rule rule) q) (all_rule rule h) am

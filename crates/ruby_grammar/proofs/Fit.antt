@@ -1,5 +1,7 @@
 -- The numbers of a file that is cut into tokens are in range.
-use Rattle.std.proofs.Common.{◌≡◌, ℕ, ◌+◌, ◌-◌, ◌==◌, Bool, true, false, ◌&&◌, not, List, [], ◌∷◌, ◌++◌, Option, Some, None, length, take, drop, refl, sym, ap, ◌∙◌, subst, append_assoc, length-append, arith, bytes_eq}
+use Rattle.std.proofs.Common.{◌≡◌, ℕ, ◌+◌, ◌-◌, ◌==◌, Bool, true, false, ◌&&◌, not, List, [], ◌∷◌, ◌++◌, Option, Some}
+use Rattle.std.proofs.Common.{None, length, take, drop, refl, sym, ap, ◌∙◌, subst, append_assoc, length-append, arith}
+use Rattle.std.proofs.Common.{bytes_eq}
 use Rattle.std.proofs.lemmas.List.{take-append-drop}
 use Rattle.ruby_token.specs.declared.fault.LexFault.{LexFault}
 use Rattle.ruby_token.specs.declared.token.Op.{Op}
@@ -11,7 +13,8 @@ use Rattle.ruby_token.specs.declared.opens.Quote.{Quote}
 use Rattle.ruby_token.specs.declared.state.State.{State}
 use Rattle.ruby_token.specs.Opens.{text_at, outermost}
 use Rattle.ruby_token.specs.Number.{is_in_range}
-use Rattle.ruby_token.specs.Cut.{Outcome, done, fault, put, open_text, at_end, is_last, stuck_in, Cut, ends, passes, gives, big, stuck, is_big, Lexes, with_fault}
+use Rattle.ruby_token.specs.Cut.{Outcome, done, fault, put, open_text, at_end, is_last, stuck_in, Cut, ends, passes}
+use Rattle.ruby_token.specs.Cut.{gives, big, stuck, is_big, Lexes, with_fault}
 use Rattle.std.specs.Str.Lossy.{utf8_valid_len}
 use Rattle.ruby_token.proofs.Words.{split_if, drop_front}
 use Rattle.ruby_token.proofs.Cuts.{take_front}
@@ -31,7 +34,8 @@ lacks n (row ∷ rows) = not (row.1 == n) && lacks n rows
 
 lacking : (n : ℕ) (rows : List (List ℕ × ℕ)) (name : List ℕ) → lacks n rows ≡ true → (code_in rows name == n) ≡ false
 lacking n [] name h = not_true (0 == n) h
-lacking n (row ∷ rows) name h = split_if (λ c. (c == n) ≡ false) (bytes_eq row.0 name) row.1 (code_in rows name) (λ e. not_true (row.1 == n) (and_true _ _ h).0) (λ e. lacking n rows name (and_true _ _ h).1)
+lacking n (row ∷ rows) name h = split_if (λ c. (c == n) ≡ false) (bytes_eq row.0 name) row.1 (code_in rows name)
+    (λ e. not_true (row.1 == n) (and_true _ _ h).0) (λ e. lacking n rows name (and_true _ _ h).1)
 
 true_false : (b : Bool) → b ≡ true → b ≡ false → ⊥
 true_false b h k = cc
@@ -92,7 +96,8 @@ in_range : (b : Bool) → not b ≡ false → b ≡ true
 in_range true h = refl
 in_range false h = cc
 
-number_fits : (kind : TokenKind) (text : List ℕ) → is_big kind text ≡ false → (kind_sign kind text == 55) ≡ true → is_in_range text ≡ true
+number_fits : (kind : TokenKind) (text : List ℕ) → is_big kind text ≡ false → (kind_sign kind text == 55) ≡ true →
+    is_in_range text ≡ true
 number_fits k.Int text b h = in_range (is_in_range text) b
 number_fits k.Name text b h = absurd (true_false _ h (lacking 55 word_rows text refl))
 number_fits (k.Op o) text b h = absurd (no_operator o h)
@@ -123,7 +128,8 @@ none_at_end false s n = refl
 
 none_stuck : (m : Option Quote) (v : Bool) (s : State) (n : ℕ) (bs : List ℕ) → tokens_in (stuck_in m v s n bs) ≡ []
 none_stuck None v s n bs = refl
-none_stuck (Some q) v s n bs = split_if (λ x. tokens_in x ≡ []) (v && is_last bs) _ _ (λ h. none_at_end v s n) (λ h. refl)
+none_stuck (Some q) v s n bs = split_if (λ x. tokens_in x ≡ []) (v && is_last bs) _ _ (λ h. none_at_end v s n)
+    (λ h. refl)
 
 put_in : (t : Token) (o : Outcome) → tokens_in (put (t ∷ []) o) ≡ t ∷ tokens_in o
 put_in t (done ts) = refl
@@ -139,16 +145,23 @@ slice p t r n m e f = rw (e, f, drop_front p (t ++ r)) (take_front t r)
 behind : (p t r q bs : List ℕ) → bs ≡ t ++ r → (p ++ t) ++ (r ++ q) ≡ p ++ (bs ++ q)
 behind p t r q bs e = append_assoc p t (r ++ q) ∙ ap (λ l. p ++ l) (sym (append_assoc t r q) ∙ ap (λ l. l ++ q) (sym e))
 
-fits : {v : Bool} {s : State} {n : ℕ} {bs : List ℕ} {o : Outcome} → Cut v s n bs o → (p q : List ℕ) → n ≡ length p → TokensFit (p ++ (bs ++ q)) (tokens_in o)
+fits : {v : Bool} {s : State} {n : ℕ} {bs : List ℕ} {o : Outcome} → Cut v s n bs o → (p q : List ℕ) → n ≡ length p →
+    TokensFit (p ++ (bs ++ q)) (tokens_in o)
 fits {v = v} (ends {s = s} {n = n}) p q e = fit_none _ _ (none_at_end v s n)
 fits (passes {n = n} {t = t} {r = r} {bs = bs} {o = o} h w c) p q e =
-    subst (λ l. TokensFit l (tokens_in o)) (behind p t r q bs w) (fits c (p ++ t) q (ap (λ x. x + length t) e ∙ sym (length-append p t)))
+    subst (λ l. TokensFit l (tokens_in o)) (behind p t r q bs w)
+    (fits c (p ++ t) q (ap (λ x. x + length t) e ∙ sym (length-append p t)))
 fits (gives {n = n} {kind = kind} {t = t} {r = r} {bs = bs} {o = o} h w b c) p q e =
-    let i = subst (λ l. TokensFit l (tokens_in o)) (behind p t r q bs w) (fits c (p ++ t) q (ap (λ x. x + length t) e ∙ sym (length-append p t))) in
-    let x : take (n + length t - n) (drop n (p ++ (bs ++ q))) ≡ t = subst (λ l. take (n + length t - n) (drop n (p ++ l)) ≡ t) (sym (append_assoc t r q) ∙ ap (λ l. l ++ q) (sym w)) (slice p t (r ++ q) n (n + length t - n) e (omega arith)) in
-    subst (λ l. TokensFit (p ++ (bs ++ q)) l) (sym (put_in (record { kind = kind; from = n; to = n + length t }) o)) (subst (λ l. is_big kind l ≡ false) (sym x) b, i)
+    let i = subst (λ l. TokensFit l (tokens_in o)) (behind p t r q bs w)
+    (fits c (p ++ t) q (ap (λ x. x + length t) e ∙ sym (length-append p t))) in
+    let x : take (n + length t - n) (drop n (p ++ (bs ++ q))) ≡ t =
+    subst (λ l. take (n + length t - n) (drop n (p ++ l)) ≡ t) (sym (append_assoc t r q)
+    ∙ ap (λ l. l ++ q) (sym w)) (slice p t (r ++ q) n (n + length t - n) e (omega arith)) in
+    subst (λ l. TokensFit (p ++ (bs ++ q)) l) (sym (put_in (record { kind = kind; from = n; to = n + length t }) o))
+    (subst (λ l. is_big kind l ≡ false) (sym x) b, i)
 fits (big h w b) p q e = tt
-fits {v = v} (stuck {s = s} {n = n} {b = b} {bs = bs} h) p q e = fit_none _ _ (none_stuck (text_at s.opens) v s n (b ∷ bs))
+fits {v = v} (stuck {s = s} {n = n} {b = b} {bs = bs} h) p q e =
+    fit_none _ _ (none_stuck (text_at s.opens) v s n (b ∷ bs))
 
 -- ---- their words
 
@@ -159,8 +172,11 @@ words_fit bytes end (t ∷ ts) h = (λ i. number_fits t.kind (text_of bytes t) h
 pub numbers_fit : (bytes : List ℕ) (o : Outcome) → Lexes bytes o → NumbersFit (words_of bytes (tokens_in o))
 numbers_fit bytes o l =
     let h = fits l [] (drop (utf8_valid_len bytes) bytes) refl in
-    words_fit bytes 0 (tokens_in o) (subst (λ l. TokensFit l (tokens_in o)) (take-append-drop (utf8_valid_len bytes) bytes) h)
+    words_fit bytes 0 (tokens_in o)
+    (subst (λ l. TokensFit l (tokens_in o)) (take-append-drop (utf8_valid_len bytes) bytes) h)
 
 -- of the tokens that the lexer gives, before a fault too
-pub fit_of : (bytes : List ℕ) (ts : List Token) (e : Option LexFault) → Lexes bytes (with_fault ts e) → NumbersFit (words_of bytes ts)
-fit_of bytes ts e l = subst (λ us. NumbersFit (words_of bytes us)) (tokens_with ts e) (numbers_fit bytes (with_fault ts e) l)
+pub fit_of : (bytes : List ℕ) (ts : List Token) (e : Option LexFault) → Lexes bytes (with_fault ts e) →
+    NumbersFit (words_of bytes ts)
+fit_of bytes ts e l = subst (λ us. NumbersFit (words_of bytes us)) (tokens_with ts e)
+    (numbers_fit bytes (with_fault ts e) l)

@@ -1,5 +1,6 @@
 -- Each test passes some word.
-use Rattle.std.proofs.Common.{◌≡◌, ℕ, zero, suc, ◌+◌, ◌<◌, Bool, true, false, List, [], ◌∷◌, ◌++◌, length, Some, None, refl, codes, bytes_eq, arith}
+use Rattle.std.proofs.Common.{◌≡◌, ℕ, zero, suc, ◌+◌, ◌<◌, Bool, true, false, List, [], ◌∷◌, ◌++◌, length, Some, None}
+use Rattle.std.proofs.Common.{refl, codes, bytes_eq, arith}
 use Rattle.ruby_token.specs.declared.token.Op.TheVariants as op
 use Rattle.ruby_token.specs.declared.token.Op.{Op}
 use Rattle.ruby_token.specs.declared.token.TokenKind.{TokenKind}
@@ -9,8 +10,15 @@ use Rattle.ruby_types.specs.declared.tree.Stmt.{Stmt}
 use Rattle.descent.specs.Grammar.{Prod, Among}
 use Rattle.descent.specs.Lawful.{Goes}
 use Rattle.ruby_grammar.specs.Words.{Word}
-use Rattle.ruby_grammar.specs.Signs.{Level, units, products, sums, comparisons, equalities, conjunctions, disjunctions, is_new_parameter, has, ends_in_suffix}
-use Rattle.ruby_grammar.specs.Rules.{ruby, Sort, Rule, Body, Around, Scope, Block, file, definitions, more_definitions, definition, path_rest, parent, constant, heading, parameter_list, parameters, more_parameters, more_readers, statements, more_statements, statement, simple_statement, condition_behind, then_or_line, perhaps_line, arms_rest, perhaps_expression, expression, choice_rest, operators, more_operators, unary, postfix, more_postfix, primary, name_rest, perhaps_arguments, members, more_members, pairs, more_pairs, pair, text_parts}
+use Rattle.ruby_grammar.specs.Signs.{Level, units, products, sums, comparisons, equalities, conjunctions, disjunctions}
+use Rattle.ruby_grammar.specs.Signs.{is_new_parameter, has, ends_in_suffix}
+use Rattle.ruby_grammar.specs.Rules.{ruby, Sort, Rule, Body, Around, Scope, Block, file, definitions, more_definitions}
+use Rattle.ruby_grammar.specs.Rules.{definition, path_rest, parent, constant, heading, parameter_list, parameters}
+use Rattle.ruby_grammar.specs.Rules.{more_parameters, more_readers, statements, more_statements, statement}
+use Rattle.ruby_grammar.specs.Rules.{simple_statement, condition_behind, then_or_line, perhaps_line, arms_rest}
+use Rattle.ruby_grammar.specs.Rules.{perhaps_expression, expression, choice_rest, operators, more_operators, unary}
+use Rattle.ruby_grammar.specs.Rules.{postfix, more_postfix, primary, name_rest, perhaps_arguments, members}
+use Rattle.ruby_grammar.specs.Rules.{more_members, pairs, more_pairs, pair, text_parts}
 use Rattle.ruby_grammar.specs.Language.{forms}
 use Rattle.ruby_grammar.specs.Expressions as e
 use Rattle.ruby_grammar.specs.Statements as s
@@ -83,8 +91,10 @@ fresh_is ns = rw (no_suffix (suc (weight ns)), none_of ns (suc (weight ns)) (ome
 abbrev AllGo : {t : Sort} → List (Prod ruby t) → Type 0
 AllGo ps = Each (λ p. Goes p) ps
 
-opening_goes : {t : Sort} (levels : ℕ) (f : ℕ → Prod ruby t) (qs : List (Prod ruby t)) → ((n : ℕ) → Goes (f n)) → AllGo qs → AllGo (e.opening levels f ++ qs)
-opening_goes levels f qs h k = each_append (λ p. Goes p) (e.opening levels f) qs (each_opening (λ p. Goes p) levels f h) k
+opening_goes : {t : Sort} (levels : ℕ) (f : ℕ → Prod ruby t) (qs : List (Prod ruby t)) → ((n : ℕ) → Goes (f n)) →
+    AllGo qs → AllGo (e.opening levels f ++ qs)
+opening_goes levels f qs h k = each_append (λ p. Goes p) (e.opening levels f) qs
+    (each_opening (λ p. Goes p) levels f h) k
 
 opened_goes : {t : Sort} (levels : ℕ) (f : ℕ → Prod ruby t) → ((n : ℕ) → Goes (f n)) → AllGo (e.opening levels f)
 opened_goes levels f h = each_opening (λ p. Goes p) levels f h
@@ -106,46 +116,122 @@ set_goes : (sets : Bool) (here : Around) → AllGo (s.where_it_may sets (s.setti
 set_goes true here = (((a_word k.Ivar [], refl), λ w t. ((an_op op.Assign, refl), λ w t. λ y. tt)), tt)
 set_goes false here = tt
 
-elsif_goes : (may_elsif : Bool) (levels : ℕ) (sets : Bool) (arms : List (Expr × List Stmt)) (b : Block) → AllGo (s.elsif_forms levels sets may_elsif arms b)
+elsif_goes : (may_elsif : Bool) (levels : ℕ) (sets : Bool) (arms : List (Expr × List Stmt)) (b : Block) →
+    AllGo (s.elsif_forms levels sets may_elsif arms b)
 elsif_goes true levels sets arms b = (((a_word k.Name (codes "elsif"), refl), λ w t. λ x y z r. tt), tt)
 elsif_goes false levels sets arms b = tt
 
-branch_goes : (closed : Bool) (levels : ℕ) (sets may_elsif : Bool) (arms : List (Expr × List Stmt)) (b : Block) → AllGo (s.branch_forms closed levels sets may_elsif arms b)
-branch_goes true levels sets may_elsif arms b = (((a_word k.Name (codes "else"), refl), λ w t. λ x y. ((a_word k.Name (codes "end"), refl), λ w t. tt)), elsif_goes may_elsif levels sets arms b)
+branch_goes : (closed : Bool) (levels : ℕ) (sets may_elsif : Bool) (arms : List (Expr × List Stmt)) (b : Block) →
+    AllGo (s.branch_forms closed levels sets may_elsif arms b)
+branch_goes true levels sets may_elsif arms b = (
+  ((a_word k.Name (codes "else"), refl), λ w t. λ x y. ((a_word k.Name (codes "end"), refl), λ w t. tt)),
+  elsif_goes may_elsif levels sets arms b,
+)
 branch_goes false levels sets may_elsif arms b = tt
 
 member_goes : (top : Bool) (here : Body) → AllGo (d.member_forms top here)
 member_goes true here = tt
-member_goes false here = (((a_word k.Name (codes "include"), refl), λ w t. λ y. tt), (((a_word k.Name (codes "attr_reader"), refl), λ w t. ((a_word k.Sym [], refl), λ w t. λ y. tt)), opened_goes here.levels (d.method_from here) (λ n. ((a_word k.Name (codes "def"), refl), λ w t. λ x y z. ((a_word k.Name (codes "end"), refl), λ w t. tt)))))
+member_goes false here = (
+  ((a_word k.Name (codes "include"), refl), λ w t. λ y. tt),
+  (
+    ((a_word k.Name (codes "attr_reader"), refl), λ w t. ((a_word k.Sym [], refl), λ w t. λ y. tt)),
+    opened_goes here.levels (d.method_from here)
+        (λ n. ((a_word k.Name (codes "def"), refl), λ w t. λ x y z. ((a_word k.Name (codes "end"), refl), λ w t. tt))),
+  ),
+)
 
 goes_forms : {t : Sort} (rule : Rule t) → AllGo (forms rule)
 goes_forms (file levels anywhere) = (((a_word k.Line [], refl), λ w t. λ y. tt), (λ y. tt, tt))
 goes_forms (definitions here ds) = (λ y z. tt, (tt, tt))
 goes_forms (more_definitions here ds) = (((a_word k.Line [], refl), λ w t. λ y. tt), (tt, tt))
-goes_forms (definition here) = each_append (λ p. Goes p) (d.top_forms here) _
-    (((a_word k.Const [], refl), λ w t. ((an_op op.Assign, refl), λ w t. λ y. tt)), opening_goes here.levels (d.module_from here) _ (λ n. ((a_word k.Name (codes "module"), refl), λ w t. ((a_word k.Const [], refl), λ w t. λ x. ((a_word k.Line [], refl), λ w t. λ y. ((a_word k.Name (codes "end"), refl), λ w t. tt))))) (opened_goes here.levels (d.class_from here) (λ n. ((a_word k.Name (codes "class"), refl), λ w t. ((a_word k.Const [], refl), λ w t. λ x y z. ((a_word k.Name (codes "end"), refl), λ w t. tt)))))) (member_goes (d.at_top here.path) here)
-goes_forms (path_rest true None names) = (((an_op op.Path, refl), λ w t. ((a_word k.Const [], refl), λ w t. λ y. tt)), (tt, tt))
-goes_forms (path_rest true (Some m) names) = (((an_op op.Path, refl), λ w t. ((a_word k.Const [], refl), λ w t. λ y. tt)), (tt, tt))
+goes_forms (definition here) = each_append (λ p. Goes p) (d.top_forms here) _ (
+  ((a_word k.Const [], refl), λ w t. ((an_op op.Assign, refl), λ w t. λ y. tt)),
+  opening_goes here.levels (d.module_from here) _
+      (λ n. (
+        (a_word k.Name (codes "module"), refl),
+        λ w t. (
+          (a_word k.Const [], refl),
+          λ w t. λ x.
+              ((a_word k.Line [], refl), λ w t. λ y. ((a_word k.Name (codes "end"), refl), λ w t. tt)),
+        ),
+      ))
+      (opened_goes here.levels (d.class_from here)
+      (λ n. (
+        (a_word k.Name (codes "class"), refl),
+        λ w t.
+            ((a_word k.Const [], refl), λ w t. λ x y z. ((a_word k.Name (codes "end"), refl), λ w t. tt)),
+      ))),
+)
+    (member_goes (d.at_top here.path) here)
+goes_forms (path_rest true None names) =
+    (((an_op op.Path, refl), λ w t. ((a_word k.Const [], refl), λ w t. λ y. tt)), (tt, tt))
+goes_forms (path_rest true (Some m) names) =
+    (((an_op op.Path, refl), λ w t. ((a_word k.Const [], refl), λ w t. λ y. tt)), (tt, tt))
 goes_forms (path_rest false None names) = (tt, tt)
 goes_forms (path_rest false (Some m) names) = (tt, tt)
-goes_forms (parent path at) = (((an_op op.Less, refl), λ w t. λ x. ((a_word k.Line [], refl), λ w t. tt)), (((a_word k.Line [], refl), λ w t. tt), tt))
-goes_forms (constant ending) = (((an_op op.Path, refl), λ w t. ((a_word k.Const [], refl), λ w t. λ y. tt)), (((a_word k.Const [], refl), λ w t. λ y. tt), tt))
-goes_forms heading = (((a_word k.Name (codes "self"), refl), λ w t. ((an_op op.Dot, refl), λ w t. ((a_word k.Name (codes "x"), refl), λ w t. tt))), (((a_word k.Name (codes "x"), refl), λ w t. tt), tt))
-goes_forms (parameter_list levels m) = (((a_word k.Line [], refl), λ w t. tt), opened_goes levels (d.parameters_from m) (λ n. ((an_op op.OpenParen, refl), λ w t. λ x. ((an_op op.CloseParen, refl), λ w t. ((a_word k.Line [], refl), λ w t. tt)))))
+goes_forms (parent path at) = (
+  ((an_op op.Less, refl), λ w t. λ x. ((a_word k.Line [], refl), λ w t. tt)),
+  (((a_word k.Line [], refl), λ w t. tt), tt),
+)
+goes_forms (constant ending) = (
+  ((an_op op.Path, refl), λ w t. ((a_word k.Const [], refl), λ w t. λ y. tt)),
+  (((a_word k.Const [], refl), λ w t. λ y. tt), tt),
+)
+goes_forms heading = (
+  (
+    (a_word k.Name (codes "self"), refl),
+    λ w t.
+        ((an_op op.Dot, refl), λ w t. ((a_word k.Name (codes "x"), refl), λ w t. tt)),
+  ),
+  (((a_word k.Name (codes "x"), refl), λ w t. tt), tt),
+)
+goes_forms (parameter_list levels m) = (
+  ((a_word k.Line [], refl), λ w t. tt),
+  opened_goes levels (d.parameters_from m)
+      (λ n. (
+        (an_op op.OpenParen, refl),
+        λ w t. λ x.
+            ((an_op op.CloseParen, refl), λ w t. ((a_word k.Line [], refl), λ w t. tt)),
+      )),
+)
 goes_forms parameters = (((a_word k.Name (codes "x"), refl), λ w t. λ y. tt), (tt, tt))
-goes_forms (more_parameters names) = (((an_op op.Comma, refl), λ w t. ((fresh names, fresh_is names), λ v u y. tt)), (tt, tt))
-goes_forms (more_readers path names) = (((an_op op.Comma, refl), λ w t. ((a_word k.Sym [], refl), λ w t. λ y. tt)), (tt, tt))
+goes_forms (more_parameters names) =
+    (((an_op op.Comma, refl), λ w t. ((fresh names, fresh_is names), λ v u y. tt)), (tt, tt))
+goes_forms (more_readers path names) =
+    (((an_op op.Comma, refl), λ w t. ((a_word k.Sym [], refl), λ w t. λ y. tt)), (tt, tt))
 goes_forms (statements here ss) = (λ y z. tt, (tt, tt))
 goes_forms (more_statements here ss) = (((a_word k.Line [], refl), λ w t. λ y. tt), (tt, tt))
-goes_forms (statement here) = (λ y z. tt, opening_goes here.levels (s.if_from here) _ (λ n. ((a_word k.Name (codes "if"), refl), λ w t. λ x y z r. tt)) (opened_goes here.levels (s.unless_from here) (λ n. ((a_word k.Name (codes "unless"), refl), λ w t. λ x y z r. tt))))
-goes_forms (simple_statement here) = (((a_word k.Name (codes "return"), refl), λ w t. λ y. tt), (((a_word k.Name (codes "raise"), refl), λ w t. λ y. tt), (((a_word k.Name (codes "x"), refl), λ w t. ((an_op op.Assign, refl), λ w t. λ y. tt)), each_append (λ p. Goes p) (s.where_it_may here.sets (s.setting_ivar here)) _ (set_goes here.sets here) (λ y. tt, tt))))
-goes_forms (condition_behind levels t) = (((a_word k.Name (codes "if"), refl), λ w t. λ y. tt), (((a_word k.Name (codes "unless"), refl), λ w t. λ y. tt), (tt, tt)))
-goes_forms then_or_line = (((a_word k.Name (codes "then"), refl), λ w t. λ y. tt), (((a_word k.Line [], refl), λ w t. tt), tt))
+goes_forms (statement here) = (
+  λ y z. tt,
+  opening_goes here.levels (s.if_from here) _
+      (λ n. ((a_word k.Name (codes "if"), refl), λ w t. λ x y z r. tt))
+      (opened_goes here.levels (s.unless_from here)
+      (λ n. ((a_word k.Name (codes "unless"), refl), λ w t. λ x y z r. tt))),
+)
+goes_forms (simple_statement here) = (
+  ((a_word k.Name (codes "return"), refl), λ w t. λ y. tt),
+  (
+    ((a_word k.Name (codes "raise"), refl), λ w t. λ y. tt),
+    (
+      ((a_word k.Name (codes "x"), refl), λ w t. ((an_op op.Assign, refl), λ w t. λ y. tt)),
+      each_append (λ p. Goes p) (s.where_it_may here.sets (s.setting_ivar here)) _ (set_goes here.sets here)
+          (λ y. tt, tt),
+    ),
+  ),
+)
+goes_forms (condition_behind levels t) = (
+  ((a_word k.Name (codes "if"), refl), λ w t. λ y. tt),
+  (((a_word k.Name (codes "unless"), refl), λ w t. λ y. tt), (tt, tt)),
+)
+goes_forms then_or_line =
+    (((a_word k.Name (codes "then"), refl), λ w t. λ y. tt), (((a_word k.Line [], refl), λ w t. tt), tt))
 goes_forms perhaps_line = (((a_word k.Line [], refl), λ w t. tt), (tt, tt))
-goes_forms (arms_rest levels sets may_elsif arms b) = (((a_word k.Name (codes "end"), refl), λ w t. tt), branch_goes b.closed levels sets may_elsif arms b)
+goes_forms (arms_rest levels sets may_elsif arms b) =
+    (((a_word k.Name (codes "end"), refl), λ w t. tt), branch_goes b.closed levels sets may_elsif arms b)
 goes_forms (perhaps_expression here) = (λ y. tt, (tt, tt))
 goes_forms (expression here) = (λ y z. tt, tt)
-goes_forms (choice_rest here x) = (((an_op op.Ask, refl), λ w t. λ y. ((an_op op.Colon, refl), λ w t. λ z. tt)), (tt, tt))
+goes_forms (choice_rest here x) =
+    (((an_op op.Ask, refl), λ w t. λ y. ((an_op op.Colon, refl), λ w t. λ z. tt)), (tt, tt))
 goes_forms (operators level here) = operators_go level here
 goes_forms (more_operators products here x) = (((an_op op.Times, refl), λ w t. λ y z. tt), (tt, tt))
 goes_forms (more_operators sums here x) = (((an_op op.Plus, refl), λ w t. λ y z. tt), (tt, tt))
@@ -154,18 +240,65 @@ goes_forms (more_operators equalities here x) = (((an_op op.Same, refl), λ w t.
 goes_forms (more_operators conjunctions here x) = (((an_op op.AndAlso, refl), λ w t. λ y z. tt), (tt, tt))
 goes_forms (more_operators disjunctions here x) = (((an_op op.OrElse, refl), λ w t. λ y z. tt), (tt, tt))
 goes_forms (more_operators units here x) = (tt, tt)
-goes_forms (unary here) = opening_goes here.levels (e.not_from here) _ (λ n. ((an_op op.Not, refl), λ w t. λ y. tt)) (opening_goes here.levels (e.minus_from here) _ (λ n. ((an_op op.Minus, refl), λ w t. λ y. tt)) ((λ y. tt, tt)))
+goes_forms (unary here) = opening_goes here.levels (e.not_from here) _ (λ n. ((an_op op.Not, refl), λ w t. λ y. tt))
+    (opening_goes here.levels (e.minus_from here) _ (λ n. ((an_op op.Minus, refl), λ w t. λ y. tt)) ((λ y. tt, tt)))
 goes_forms (postfix here) = (λ y z. tt, tt)
-goes_forms (more_postfix here x) = (((an_op op.Dot, refl), λ w t. ((a_word k.Name (codes "x"), refl), λ w t. λ y z. tt)), opening_goes here.levels (e.index_from here x) _ (λ n. ((an_op op.OpenBracket, refl), λ w t. λ y. ((an_op op.CloseBracket, refl), λ w t. λ z. tt))) ((tt, tt)))
-goes_forms (primary here) = (((a_word k.Int [], refl), λ w t. tt), (((a_word k.TextOpen [], refl), λ w t. λ y. ((a_word k.TextClose [], refl), λ w t. tt)), (((a_word k.Sym [], refl), λ w t. tt), (((a_word k.Name (codes "nil"), refl), λ w t. tt), (((a_word k.Name (codes "true"), refl), λ w t. tt), (((a_word k.Name (codes "false"), refl), λ w t. tt), (((a_word k.Name (codes "self"), refl), λ w t. tt), (((a_word k.Name (codes "x"), refl), λ w t. λ y. tt), (((a_word k.Ivar [], refl), λ w t. tt), (λ y. tt, opening_goes here.levels (e.array_from here) _ (λ n. ((an_op op.OpenBracket, refl), λ w t. λ y. ((an_op op.CloseBracket, refl), λ w t. tt))) (opening_goes here.levels (e.hash_from here) _ (λ n. ((an_op op.OpenBrace, refl), λ w t. λ y. ((an_op op.CloseBrace, refl), λ w t. tt))) (opened_goes here.levels (e.group_from here) (λ n. ((an_op op.OpenParen, refl), λ w t. λ y. ((an_op op.CloseParen, refl), λ w t. tt)))))))))))))))
-goes_forms (name_rest here name) = opening_goes here.levels (e.call_from here name) _ (λ n. ((an_op op.OpenParen, refl), λ w t. λ y. ((an_op op.CloseParen, refl), λ w t. tt))) ((tt, tt))
-goes_forms (perhaps_arguments here) = opening_goes here.levels (e.arguments_from here) _ (λ n. ((an_op op.OpenParen, refl), λ w t. λ y. ((an_op op.CloseParen, refl), λ w t. tt))) ((tt, tt))
+goes_forms (more_postfix here x) = (
+  ((an_op op.Dot, refl), λ w t. ((a_word k.Name (codes "x"), refl), λ w t. λ y z. tt)),
+  opening_goes here.levels (e.index_from here x) _
+      (λ n. ((an_op op.OpenBracket, refl), λ w t. λ y. ((an_op op.CloseBracket, refl), λ w t. λ z. tt))) ((tt, tt)),
+)
+goes_forms (primary here) = (
+  ((a_word k.Int [], refl), λ w t. tt),
+  (
+    ((a_word k.TextOpen [], refl), λ w t. λ y. ((a_word k.TextClose [], refl), λ w t. tt)),
+    (
+      ((a_word k.Sym [], refl), λ w t. tt),
+      (
+        ((a_word k.Name (codes "nil"), refl), λ w t. tt),
+        (
+          ((a_word k.Name (codes "true"), refl), λ w t. tt),
+          (
+            ((a_word k.Name (codes "false"), refl), λ w t. tt),
+            (
+              ((a_word k.Name (codes "self"), refl), λ w t. tt),
+              (
+                ((a_word k.Name (codes "x"), refl), λ w t. λ y. tt),
+                (
+                  ((a_word k.Ivar [], refl), λ w t. tt),
+                  (
+                    λ y. tt,
+                    opening_goes here.levels (e.array_from here) _
+                        (λ n. ((an_op op.OpenBracket, refl), λ w t. λ y. ((an_op op.CloseBracket, refl), λ w t. tt)))
+                        (opening_goes here.levels (e.hash_from here) _
+                        (λ n. ((an_op op.OpenBrace, refl), λ w t. λ y. ((an_op op.CloseBrace, refl), λ w t. tt)))
+                        (opened_goes here.levels (e.group_from here)
+                        (λ n. ((an_op op.OpenParen, refl), λ w t. λ y. ((an_op op.CloseParen, refl), λ w t. tt))))),
+                  ),
+                ),
+              ),
+            ),
+          ),
+        ),
+      ),
+    ),
+  ),
+)
+goes_forms (name_rest here name) = opening_goes here.levels (e.call_from here name) _
+    (λ n. ((an_op op.OpenParen, refl), λ w t. λ y. ((an_op op.CloseParen, refl), λ w t. tt))) ((tt, tt))
+goes_forms (perhaps_arguments here) = opening_goes here.levels (e.arguments_from here) _
+    (λ n. ((an_op op.OpenParen, refl), λ w t. λ y. ((an_op op.CloseParen, refl), λ w t. tt))) ((tt, tt))
 goes_forms (members here xs) = (λ y z. tt, (tt, tt))
 goes_forms (pairs here xs) = (λ y z. tt, (tt, tt))
 goes_forms (more_members here xs) = (((an_op op.Comma, refl), λ w t. λ y. tt), (tt, tt))
 goes_forms (more_pairs here xs) = (((an_op op.Comma, refl), λ w t. λ y. tt), (tt, tt))
-goes_forms (pair here) = (((a_word k.Label [], refl), λ w t. λ y. tt), (λ x. ((an_op op.Arrow, refl), λ w t. λ y. tt), tt))
-goes_forms (text_parts here double parts) = (((a_word k.TextPiece [], refl), λ w t. λ y. tt), opening_goes here.levels (e.inside_from here double parts) _ (λ n. ((a_word k.InsideOpen [], refl), λ w t. λ y. ((a_word k.InsideClose [], refl), λ w t. λ z. tt))) ((tt, tt)))
+goes_forms (pair here) =
+    (((a_word k.Label [], refl), λ w t. λ y. tt), (λ x. ((an_op op.Arrow, refl), λ w t. λ y. tt), tt))
+goes_forms (text_parts here double parts) = (
+  ((a_word k.TextPiece [], refl), λ w t. λ y. tt),
+  opening_goes here.levels (e.inside_from here double parts) _
+      (λ n. ((a_word k.InsideOpen [], refl), λ w t. λ y. ((a_word k.InsideClose [], refl), λ w t. λ z. tt))) ((tt, tt)),
+)
 
 pub goes_rule : {t : Sort} (rule : Rule t) (p : Prod ruby t) → Among p (forms rule) → Goes p
 goes_rule rule p am = each_among (λ q. Goes q) (goes_forms rule) am

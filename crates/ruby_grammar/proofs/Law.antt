@@ -5,7 +5,13 @@ use Rattle.descent.specs.Reading.{take, choose, head, Outcome, Reads}
 use Rattle.descent.specs.Lawful.{Lawful, left}
 use Rattle.ruby_grammar.specs.Words.{Word}
 use Rattle.ruby_grammar.specs.Marks.{Mark}
-use Rattle.ruby_grammar.specs.Rules.{ruby, Val, Sort, Rule, file, definitions, more_definitions, definition, path_rest, parent, constant, heading, parameter_list, parameters, more_parameters, more_readers, statements, more_statements, statement, simple_statement, condition_behind, then_or_line, perhaps_line, arms_rest, perhaps_expression, expression, choice_rest, operators, more_operators, unary, postfix, more_postfix, primary, name_rest, perhaps_arguments, members, more_members, pairs, more_pairs, pair, text_parts}
+use Rattle.ruby_grammar.specs.Rules.{ruby, Val, Sort, Rule, file, definitions, more_definitions, definition, path_rest}
+use Rattle.ruby_grammar.specs.Rules.{parent, constant, heading, parameter_list, parameters, more_parameters}
+use Rattle.ruby_grammar.specs.Rules.{more_readers, statements, more_statements, statement, simple_statement}
+use Rattle.ruby_grammar.specs.Rules.{condition_behind, then_or_line, perhaps_line, arms_rest, perhaps_expression}
+use Rattle.ruby_grammar.specs.Rules.{expression, choice_rest, operators, more_operators, unary, postfix, more_postfix}
+use Rattle.ruby_grammar.specs.Rules.{primary, name_rest, perhaps_arguments, members, more_members, pairs, more_pairs}
+use Rattle.ruby_grammar.specs.Rules.{pair, text_parts}
 use Rattle.ruby_grammar.specs.Language.{forms, ruby_grammar}
 use Rattle.ruby_grammar.specs.Choices.{ruby_choices}
 use Rattle.ruby_grammar.specs.Follow.{ruby_follow, fits, looks}
@@ -20,8 +26,10 @@ use Rattle.ruby_grammar.proofs.Going as g
 use Rattle.ruby_grammar.proofs.Marking as m
 use Rattle.ruby_grammar.proofs.Assigns as a
 
-passes_rule : {t : Sort} (rule : Rule t) (w : Word) (ws : List Word) (q : Prod ruby t) (ms : List Mark) (out : Outcome ruby t) →
-    looks rule (Some w) ≡ true → choose ruby_choices rule (w ∷ ws) ≡ take q → Reads ruby_grammar ruby_choices t q ms (w ∷ ws) out → length (left out) < length (w ∷ ws)
+passes_rule : {t : Sort} (rule : Rule t) (w : Word) (ws : List Word) (q : Prod ruby t) (ms : List Mark)
+    (out : Outcome ruby t) →
+    looks rule (Some w) ≡ true → choose ruby_choices rule (w ∷ ws) ≡ take q →
+    Reads ruby_grammar ruby_choices t q ms (w ∷ ws) out → length (left out) < length (w ∷ ws)
 passes_rule (simple_statement here) w ws q ms out h e r = p.simple_passes here w ws q h e ms out r
 passes_rule (file levels anywhere) w ws q ms out h e r = cc
 passes_rule (definitions here ds) w ws q ms out h e r = cc
@@ -60,7 +68,9 @@ passes_rule (more_pairs here ps) w ws q ms out h e r = cc
 passes_rule (pair here) w ws q ms out h e r = cc
 passes_rule (text_parts here double parts) w ws q ms out h e r = cc
 
-chooses : {t : Sort} (rule : Rule t) (q : Prod ruby t) (ts : List (Item ruby)) (x : Val t) (rest : List Word) → Among q (forms rule) → Is ruby_grammar t q ts x → fits rule (head rest) ≡ true → choose ruby_choices rule (words ts ++ rest) ≡ take q
+chooses : {t : Sort} (rule : Rule t) (q : Prod ruby t) (ts : List (Item ruby)) (x : Val t) (rest : List Word) →
+    Among q (forms rule) → Is ruby_grammar t q ts x → fits rule (head rest) ≡ true →
+    choose ruby_choices rule (words ts ++ rest) ≡ take q
 chooses {t} rule q ts x rest = k.chooses_rule a.evaluating_chosen t rule q ts x rest
 
 pub lawful : Lawful ruby_grammar ruby_choices ruby_follow

@@ -2,12 +2,19 @@
 use Rattle.std.proofs.Common.{◌≡◌, false, Option, Some, None, refl}
 use Rattle.ruby_grammar.specs.Words.{Word}
 use Rattle.ruby_grammar.specs.Signs.{is_variable, is_ivar}
-use Rattle.ruby_grammar.specs.Rules.{Sort, Rule, Around, file, definitions, more_definitions, definition, path_rest, parent, constant, heading, parameter_list, parameters, more_parameters, more_readers, statements, more_statements, statement, simple_statement, condition_behind, then_or_line, perhaps_line, arms_rest, perhaps_expression, expression, choice_rest, operators, more_operators, unary, postfix, more_postfix, primary, name_rest, perhaps_arguments, members, more_members, pairs, more_pairs, pair, text_parts}
+use Rattle.ruby_grammar.specs.Rules.{Sort, Rule, Around, file, definitions, more_definitions, definition, path_rest}
+use Rattle.ruby_grammar.specs.Rules.{parent, constant, heading, parameter_list, parameters, more_parameters}
+use Rattle.ruby_grammar.specs.Rules.{more_readers, statements, more_statements, statement, simple_statement}
+use Rattle.ruby_grammar.specs.Rules.{condition_behind, then_or_line, perhaps_line, arms_rest, perhaps_expression}
+use Rattle.ruby_grammar.specs.Rules.{expression, choice_rest, operators, more_operators, unary, postfix, more_postfix}
+use Rattle.ruby_grammar.specs.Rules.{primary, name_rest, perhaps_arguments, members, more_members, pairs, more_pairs}
+use Rattle.ruby_grammar.specs.Rules.{pair, text_parts}
 use Rattle.ruby_grammar.specs.Choices.{pick}
 use Rattle.ruby_grammar.specs.Follow.{looks}
 use Rattle.ruby_grammar.proofs.Tools.{or_false}
 
-simple_one : (here : Around) (w : Word) (b c : Option Word) → (is_variable w ≡ false) × (is_ivar w ≡ false) → pick (simple_statement here) (Some w) b ≡ pick (simple_statement here) (Some w) c
+simple_one : (here : Around) (w : Word) (b c : Option Word) → (is_variable w ≡ false) × (is_ivar w ≡ false) →
+    pick (simple_statement here) (Some w) b ≡ pick (simple_statement here) (Some w) c
 simple_one here w b c h = rw (h.0, h.1) refl
 
 pub one_word : {t : Sort} (rule : Rule t) (a b c : Option Word) → looks rule a ≡ false → pick rule a b ≡ pick rule a c

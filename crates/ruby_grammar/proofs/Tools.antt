@@ -1,5 +1,6 @@
 -- Alternatives in lists, and signs of words.
-use Rattle.std.proofs.Common.{◌≡◌, ◌⊎◌, inl, inr, ℕ, zero, suc, Bool, true, false, ◌||◌, ◌&&◌, not, List, [], ◌∷◌, ◌++◌, refl, if◌then◌else◌}
+use Rattle.std.proofs.Common.{◌≡◌, ◌⊎◌, inl, inr, ℕ, zero, suc, Bool, true, false, ◌||◌, ◌&&◌, not, List, [], ◌∷◌, ◌++◌}
+use Rattle.std.proofs.Common.{refl, if◌then◌else◌}
 use Rattle.std.proofs.lemmas.Bool.{eqb-true}
 use Rattle.descent.specs.Grammar.{Prod, Among, first, later}
 use Rattle.descent.specs.Reading.{Choice, take, too_deep, barred, nothing}
@@ -22,7 +23,8 @@ pub each_append : {A : Type 0} (P : A → Type 0) (ps qs : List A) → Each P ps
 each_append P [] qs h k = k
 each_append P (p ∷ ps) qs h k = (h.0, each_append P ps qs h.1 k)
 
-pub each_opening : {s : Sort} (P : Prod ruby s → Type 0) (levels : ℕ) (f : ℕ → Prod ruby s) → ((n : ℕ) → P (f n)) → Each P (opening levels f)
+pub each_opening : {s : Sort} (P : Prod ruby s → Type 0) (levels : ℕ) (f : ℕ → Prod ruby s) → ((n : ℕ) → P (f n)) →
+    Each P (opening levels f)
 each_opening P zero f h = tt
 each_opening P (suc n) f h = (h n, tt)
 
@@ -41,11 +43,13 @@ Fine bar ps too_deep = Unit {0}
 Fine bar ps barred = bar
 Fine bar ps nothing = Unit {0}
 
-pub fine_if : {s : Sort} (bar : Type 0) (ps : List (Prod ruby s)) (b : Bool) (c d : Choice ruby s) → Fine bar ps c → Fine bar ps d → Fine bar ps (if b then c else d)
+pub fine_if : {s : Sort} (bar : Type 0) (ps : List (Prod ruby s)) (b : Bool) (c d : Choice ruby s) → Fine bar ps c →
+    Fine bar ps d → Fine bar ps (if b then c else d)
 fine_if bar ps true c d h k = h
 fine_if bar ps false c d h k = k
 
-pub fine_deepen : {s : Sort} (bar : Type 0) (ps : List (Prod ruby s)) (levels : ℕ) (f : ℕ → Prod ruby s) → ((p : Prod ruby s) → Among p (opening levels f) → Among p ps) → Fine bar ps (deepen levels f)
+pub fine_deepen : {s : Sort} (bar : Type 0) (ps : List (Prod ruby s)) (levels : ℕ) (f : ℕ → Prod ruby s) →
+    ((p : Prod ruby s) → Among p (opening levels f) → Among p ps) → Fine bar ps (deepen levels f)
 fine_deepen bar ps zero f h = tt
 fine_deepen bar ps (suc n) f h = h (f n) first
 

@@ -1,15 +1,27 @@
 -- How the reader chooses: which alternative of a rule the next word begins (of a simple statement, the next two words).
-use Rattle.std.specs.Prelude.{ℕ, zero, suc, Bool, true, false, ◌&&◌, ◌||◌, not, List, [], ◌∷◌, Option, Some, None, if◌then◌else◌}
+use Rattle.std.specs.Prelude.{ℕ, zero, suc, Bool, true, false, ◌&&◌, ◌||◌, not, List, [], ◌∷◌, Option, Some, None}
+use Rattle.std.specs.Prelude.{if◌then◌else◌}
 use Rattle.ruby_types.specs.declared.tree.Expr.{Expr}
 use Rattle.ruby_types.specs.declared.tree.Expr.TheVariants as expr
 use Rattle.ruby_types.specs.declared.tree.Stmt.{Stmt}
 use Rattle.descent.specs.Grammar.{Prod, give, token, call, only}
 use Rattle.descent.specs.Reading.{Choice, Choices, take, too_deep, barred, nothing}
 use Rattle.ruby_grammar.specs.Words.{Word}
-use Rattle.ruby_grammar.specs.Signs.{Level, units, is_operator, is_name, is_module, is_class, is_def, is_end, is_if, is_elsif, is_else, is_unless, is_then, is_return, is_self, is_nil, is_true, is_false, is_raise, is_include, is_attr_reader, is_line, is_const, is_ivar, is_label, is_sym, is_int, is_text_open, is_text_piece, is_inside_open, is_not, is_less, is_minus, is_ask, is_path, is_dot, is_comma, is_assign, is_open_paren, is_open_bracket, is_open_brace, is_tight_paren, is_tight_bracket, is_variable}
+use Rattle.ruby_grammar.specs.Signs.{Level, units, is_operator, is_name, is_module, is_class, is_def, is_end, is_if}
+use Rattle.ruby_grammar.specs.Signs.{is_elsif, is_else, is_unless, is_then, is_return, is_self, is_nil, is_true}
+use Rattle.ruby_grammar.specs.Signs.{is_false, is_raise, is_include, is_attr_reader, is_line, is_const, is_ivar}
+use Rattle.ruby_grammar.specs.Signs.{is_label, is_sym, is_int, is_text_open, is_text_piece, is_inside_open, is_not}
+use Rattle.ruby_grammar.specs.Signs.{is_less, is_minus, is_ask, is_path, is_dot, is_comma, is_assign, is_open_paren}
+use Rattle.ruby_grammar.specs.Signs.{is_open_bracket, is_open_brace, is_tight_paren, is_tight_bracket, is_variable}
 use Rattle.ruby_grammar.specs.Marks.{Mark}
-use Rattle.ruby_grammar.specs.Rules.{ruby, Name, Path, Body, Known, Around, Scope, Block, Sort, Rule, a_def, some_names, a_statement, an_expression, some_parts, no_value}
-use Rattle.ruby_grammar.specs.Rules.{file, definitions, more_definitions, definition, path_rest, parent, constant, heading, parameter_list, parameters, more_parameters, more_readers, statements, more_statements, statement, simple_statement, condition_behind, then_or_line, perhaps_line, arms_rest, perhaps_expression, expression, choice_rest, operators, more_operators, unary, postfix, more_postfix, primary, name_rest, perhaps_arguments, members, more_members, pairs, more_pairs, pair, text_parts}
+use Rattle.ruby_grammar.specs.Rules.{ruby, Name, Path, Body, Known, Around, Scope, Block, Sort, Rule, a_def, some_names}
+use Rattle.ruby_grammar.specs.Rules.{a_statement, an_expression, some_parts, no_value}
+use Rattle.ruby_grammar.specs.Rules.{file, definitions, more_definitions, definition, path_rest, parent, constant}
+use Rattle.ruby_grammar.specs.Rules.{heading, parameter_list, parameters, more_parameters, more_readers, statements}
+use Rattle.ruby_grammar.specs.Rules.{more_statements, statement, simple_statement, condition_behind, then_or_line}
+use Rattle.ruby_grammar.specs.Rules.{perhaps_line, arms_rest, perhaps_expression, expression, choice_rest, operators}
+use Rattle.ruby_grammar.specs.Rules.{more_operators, unary, postfix, more_postfix, primary, name_rest}
+use Rattle.ruby_grammar.specs.Rules.{perhaps_arguments, members, more_members, pairs, more_pairs, pair, text_parts}
 use Rattle.ruby_grammar.specs.Values.{number_of, behind_sign, name_alone}
 use Rattle.ruby_grammar.specs.Expressions as e
 use Rattle.ruby_grammar.specs.Statements as s
@@ -29,7 +41,8 @@ deepen (suc levels) inside = take (inside levels)
 -- what an expression, a statement or a definition begins with
 abbrev pub starts_expression : Word → Bool
 starts_expression w =
-    is_int w || is_text_open w || is_sym w || is_nil w || is_true w || is_false w || is_self w || is_name w || is_ivar w || is_path w || is_const w
+    is_int w || is_text_open w || is_sym w || is_nil w || is_true w || is_false w || is_self w || is_name w ||
+    is_ivar w || is_path w || is_const w
     || is_open_bracket w || is_open_brace w || is_open_paren w || is_not w || is_minus w
 
 abbrev pub starts_statement : Word → Bool
@@ -63,7 +76,8 @@ pick_definition here a =
     else pick_member (d.at_top here.path) here a))
 
 abbrev pub pick_path_rest : Bool → Option Mark → List Name → Option Word → Choice ruby some_names
-pick_path_rest true ending names a = if next_is is_path a then take (e.path_more ending names) else take (e.path_end ending names)
+pick_path_rest true ending names a = if next_is is_path a then take (e.path_more ending names) else take
+    (e.path_end ending names)
 pick_path_rest false ending names a = take (e.path_end ending names)
 
 abbrev pub pick_statement : Around → Option Word → Choice ruby a_statement
@@ -101,12 +115,15 @@ abbrev pub pick_elsif : Bool → ℕ → Bool → List (Expr × List Stmt) → B
 pick_elsif true levels sets arms b a = if next_is is_elsif a then take (s.elsif_more levels sets arms b) else nothing
 pick_elsif false levels sets arms b a = nothing
 
-abbrev pub pick_branch : Bool → ℕ → Bool → Bool → List (Expr × List Stmt) → Block → Option Word → Choice ruby a_statement
-pick_branch true levels sets may_elsif arms b a = if next_is is_else a then take (s.else_more levels sets arms b) else pick_elsif may_elsif levels sets arms b a
+abbrev pub pick_branch : Bool → ℕ → Bool → Bool → List (Expr × List Stmt) → Block → Option Word →
+    Choice ruby a_statement
+pick_branch true levels sets may_elsif arms b a =
+    if next_is is_else a then take (s.else_more levels sets arms b) else pick_elsif may_elsif levels sets arms b a
 pick_branch false levels sets may_elsif arms b a = nothing
 
 abbrev pub pick_arms_rest : ℕ → Bool → Bool → List (Expr × List Stmt) → Block → Option Word → Choice ruby a_statement
-pick_arms_rest levels sets may_elsif arms b a = if next_is is_end a then take (s.arms_end arms b) else pick_branch b.closed levels sets may_elsif arms b a
+pick_arms_rest levels sets may_elsif arms b a = if next_is is_end a then take (s.arms_end arms b) else pick_branch
+    b.closed levels sets may_elsif arms b a
 
 abbrev pub pick_unary : Scope → Option Word → Choice ruby an_expression
 pick_unary here a =
@@ -116,7 +133,8 @@ pick_unary here a =
 
 abbrev pub pick_more_operators : Level → Scope → Expr → Option Word → Choice ruby an_expression
 pick_more_operators units here x a = take (give x)
-pick_more_operators level here x a = if next_is (is_operator level) a then take (e.operator_more level here x) else take (give x)
+pick_more_operators level here x a = if next_is (is_operator level) a then take (e.operator_more level here x) else
+    take (give x)
 
 abbrev pub pick_more_postfix : Scope → Expr → Option Word → Choice ruby an_expression
 pick_more_postfix here x a =
@@ -153,27 +171,38 @@ pick_text_parts here double parts a =
     else take (give parts))
 
 abbrev pub pick : {t : Sort} → Rule t → Option Word → Option Word → Choice ruby t
-pick (file levels anywhere) a b = if next_is is_line a then take (token is_line λ _. d.file_from levels anywhere) else take (d.file_from levels anywhere)
-pick (definitions here ds) a b = if next_is (starts_definition here.path) a then take (d.definition_then here ds) else take (give ds)
-pick (more_definitions here ds) a b = if next_is is_line a then take (token is_line λ _. only (definitions here ds)) else take (give ds)
+pick (file levels anywhere) a b = if next_is is_line a then take (token is_line λ _. d.file_from levels anywhere)
+    else take (d.file_from levels anywhere)
+pick (definitions here ds) a b = if next_is (starts_definition here.path) a then take
+    (d.definition_then here ds) else take (give ds)
+pick (more_definitions here ds) a b = if next_is is_line a then take (token is_line λ _. only (definitions here ds))
+    else take (give ds)
 pick (definition here) a b = pick_definition here a
 pick (path_rest more ending names) a b = pick_path_rest more ending names a
-pick (parent path at) a b = if next_is is_less a then take (d.some_parent path at) else (if next_is is_line a then take (d.no_parent path at) else nothing)
-pick (constant ending) a b = if next_is is_path a then take (token is_path λ _. e.constant_from true ending) else (if next_is is_const a then take (e.constant_from false ending) else nothing)
-pick heading a b = if next_is is_self a then take d.singleton_heading else (if next_is is_name a then take (d.method_name false) else nothing)
-pick (parameter_list levels m) a b = if next_is is_line a then take (d.no_parameters m) else (if next_is is_open_paren a then deepen levels (d.parameters_from m) else nothing)
-pick parameters a b = if next_is is_variable a then take (token is_variable λ w. only (more_parameters (w.text ∷ []))) else take (give [])
+pick (parent path at) a b = if next_is is_less a then take (d.some_parent path at) else
+    (if next_is is_line a then take (d.no_parent path at) else nothing)
+pick (constant ending) a b = if next_is is_path a then take (token is_path λ _. e.constant_from true ending) else
+    (if next_is is_const a then take (e.constant_from false ending) else nothing)
+pick heading a b = if next_is is_self a then take d.singleton_heading else
+    (if next_is is_name a then take (d.method_name false) else nothing)
+pick (parameter_list levels m) a b = if next_is is_line a then take (d.no_parameters m) else
+    (if next_is is_open_paren a then deepen levels (d.parameters_from m) else nothing)
+pick parameters a b = if next_is is_variable a then take
+    (token is_variable λ w. only (more_parameters (w.text ∷ []))) else take (give [])
 pick (more_parameters names) a b = if next_is is_comma a then take (d.parameter_more names) else take (give names)
 pick (more_readers path names) a b = if next_is is_comma a then take (d.reader_more path names) else take (give names)
-pick (statements here ss) a b = if next_is starts_statement a then take (s.statement_then here ss) else take (give (s.block ss here.names true))
-pick (more_statements here ss) a b = if next_is is_line a then take (token is_line λ _. only (statements here ss)) else take (give (s.block ss here.names false))
+pick (statements here ss) a b = if next_is starts_statement a then take (s.statement_then here ss) else take
+    (give (s.block ss here.names true))
+pick (more_statements here ss) a b = if next_is is_line a then take (token is_line λ _. only (statements here ss))
+    else take (give (s.block ss here.names false))
 pick (statement here) a b = pick_statement here a
 pick (simple_statement here) a b = pick_simple_statement here a b
 pick (condition_behind levels t) a b = pick_condition_behind levels t a
 pick then_or_line a b = pick_then a
 pick perhaps_line a b = if next_is is_line a then take (token is_line λ _. give tt) else take (give tt)
 pick (arms_rest levels sets may_elsif arms c) a b = pick_arms_rest levels sets may_elsif arms c a
-pick (perhaps_expression here) a b = if next_is starts_expression a then take (call (expression here) λ x. give (Some x)) else take (give None)
+pick (perhaps_expression here) a b = if next_is starts_expression a then take
+    (call (expression here) λ x. give (Some x)) else take (give None)
 pick (expression here) a b = take (e.expression_from here)
 pick (choice_rest here x) a b = if next_is is_ask a then take (e.choice_more here x) else take (give x)
 pick (operators level here) a b = take (e.operators_from level here)
@@ -182,12 +211,16 @@ pick (unary here) a b = pick_unary here a
 pick (postfix here) a b = take (e.postfix_from here)
 pick (more_postfix here x) a b = pick_more_postfix here x a
 pick (primary here) a b = pick_primary here a
-pick (name_rest here name) a b = if next_is is_tight_paren a then deepen here.levels (e.call_from here name) else take (give (name_alone here.names name))
-pick (perhaps_arguments here) a b = if next_is is_tight_paren a then deepen here.levels (e.arguments_from here) else take (give [])
+pick (name_rest here name) a b = if next_is is_tight_paren a then deepen here.levels
+    (e.call_from here name) else take (give (name_alone here.names name))
+pick (perhaps_arguments here) a b = if next_is is_tight_paren a then deepen here.levels
+    (e.arguments_from here) else take (give [])
 pick (members here xs) a b = if next_is starts_expression a then take (e.member_then here xs) else take (give xs)
-pick (more_members here xs) a b = if next_is is_comma a then take (token is_comma λ _. only (members here xs)) else take (give xs)
+pick (more_members here xs) a b = if next_is is_comma a then take (token is_comma λ _. only (members here xs)) else
+    take (give xs)
 pick (pairs here ps) a b = if next_is starts_pair a then take (e.pair_then here ps) else take (give ps)
-pick (more_pairs here ps) a b = if next_is is_comma a then take (token is_comma λ _. only (pairs here ps)) else take (give ps)
+pick (more_pairs here ps) a b = if next_is is_comma a then take (token is_comma λ _. only (pairs here ps)) else take
+    (give ps)
 pick (pair here) a b = if next_is is_label a then take (e.label_pair here) else take (e.arrow_pair here)
 pick (text_parts here double parts) a b = pick_text_parts here double parts a
 

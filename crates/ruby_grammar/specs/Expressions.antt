@@ -5,11 +5,20 @@ use Rattle.ruby_types.specs.declared.tree.Expr.TheVariants as expr
 use Rattle.ruby_types.specs.declared.tree.Part.{Part}
 use Rattle.ruby_types.specs.declared.tree.Part.TheVariants as part
 use Rattle.descent.specs.Grammar.{Prod, give, token, call, mark, only}
-use Rattle.ruby_grammar.specs.Signs.{Level, units, disjunctions, tighter, is_operator, repeats, is_name, is_not, is_minus, is_ask, is_colon, is_dot, is_path, is_const, is_comma, is_arrow, is_int, is_text_open, is_text_piece, is_text_close, is_inside_open, is_inside_close, is_sym, is_label, is_ivar, is_nil, is_true, is_false, is_self, is_open_paren, is_close_paren, is_open_bracket, is_close_bracket, is_open_brace, is_close_brace, is_tight_paren, is_tight_bracket}
+use Rattle.ruby_grammar.specs.Signs.{Level, units, disjunctions, tighter, is_operator, repeats, is_name, is_not}
+use Rattle.ruby_grammar.specs.Signs.{is_minus, is_ask, is_colon, is_dot, is_path, is_const, is_comma, is_arrow, is_int}
+use Rattle.ruby_grammar.specs.Signs.{is_text_open, is_text_piece, is_text_close, is_inside_open, is_inside_close}
+use Rattle.ruby_grammar.specs.Signs.{is_sym, is_label, is_ivar, is_nil, is_true, is_false, is_self, is_open_paren}
+use Rattle.ruby_grammar.specs.Signs.{is_close_paren, is_open_bracket, is_close_bracket, is_open_brace, is_close_brace}
+use Rattle.ruby_grammar.specs.Signs.{is_tight_paren, is_tight_bracket}
 use Rattle.ruby_grammar.specs.Marks.{Mark}
-use Rattle.ruby_grammar.specs.Rules.{ruby, Name, Sort, Scope, an_expression, some_expressions, some_pairs, a_pair, some_parts, a_constant, some_names}
-use Rattle.ruby_grammar.specs.Rules.{constant, path_rest, expression, choice_rest, operators, more_operators, unary, postfix, more_postfix, primary, name_rest, perhaps_arguments, members, more_members, pairs, more_pairs, pair, text_parts}
-use Rattle.ruby_grammar.specs.Values.{number_of, behind_sign, before_colon, text_bytes, is_double_quote, operation, name_alone}
+use Rattle.ruby_grammar.specs.Rules.{ruby, Name, Sort, Scope, an_expression, some_expressions, some_pairs, a_pair}
+use Rattle.ruby_grammar.specs.Rules.{some_parts, a_constant, some_names}
+use Rattle.ruby_grammar.specs.Rules.{constant, path_rest, expression, choice_rest, operators, more_operators, unary}
+use Rattle.ruby_grammar.specs.Rules.{postfix, more_postfix, primary, name_rest, perhaps_arguments, members}
+use Rattle.ruby_grammar.specs.Rules.{more_members, pairs, more_pairs, pair, text_parts}
+use Rattle.ruby_grammar.specs.Values.{number_of, behind_sign, before_colon, text_bytes, is_double_quote, operation}
+use Rattle.ruby_grammar.specs.Values.{name_alone}
 
 -- what opens a level stands only where one is left
 abbrev pub opening : {s : Sort} → ℕ → (ℕ → Prod ruby s) → List (Prod ruby s)
@@ -22,7 +31,8 @@ at_levels here levels = record { levels = levels; names = here.names }
 
 -- cref = [ "::" ] CONST { "::" CONST }
 abbrev pub constant_from : Bool → Option Mark → Prod ruby a_constant
-constant_from top ending = token is_const λ w. call (path_rest true ending (w.text ∷ [])) λ path. give (record { top = top; path = path })
+constant_from top ending = token is_const λ w. call (path_rest true ending (w.text ∷ [])) λ path.
+    give (record { top = top; path = path })
 
 abbrev pub constant_forms : Option Mark → List (Prod ruby a_constant)
 constant_forms ending = (token is_path λ _. constant_from true ending) ∷ constant_from false ending ∷ []
@@ -47,7 +57,8 @@ abbrev pub expression_forms : Scope → List (Prod ruby an_expression)
 expression_forms here = expression_from here ∷ []
 
 abbrev pub choice_more : Scope → Expr → Prod ruby an_expression
-choice_more here a = token is_ask λ _. call (expression here) λ b. token is_colon λ _. call (expression here) λ c. give (expr.Choose a b c)
+choice_more here a = token is_ask λ _. call (expression here) λ b. token is_colon λ _. call (expression here) λ c.
+    give (expr.Choose a b c)
 
 abbrev pub choice_rest_forms : Scope → Expr → List (Prod ruby an_expression)
 choice_rest_forms here a = choice_more here a ∷ give a ∷ []
@@ -66,7 +77,8 @@ operators_behind true level here a = only (more_operators level here a)
 operators_behind false level here a = give a
 
 abbrev pub operator_more : Level → Scope → Expr → Prod ruby an_expression
-operator_more level here a = token (is_operator level) λ w. call (operators (tighter level) here) λ b. operators_behind (repeats level) level here (operation w a b)
+operator_more level here a = token (is_operator level) λ w. call (operators (tighter level) here) λ b.
+    operators_behind (repeats level) level here (operation w a b)
 
 abbrev pub more_operators_forms : Level → Scope → Expr → List (Prod ruby an_expression)
 more_operators_forms units here a = give a ∷ []
@@ -77,10 +89,12 @@ abbrev pub not_from : Scope → ℕ → Prod ruby an_expression
 not_from here levels = token is_not λ _. call (unary (at_levels here levels)) λ a. give (expr.Not a)
 
 abbrev pub minus_from : Scope → ℕ → Prod ruby an_expression
-minus_from here levels = token is_minus λ _. call (unary (at_levels here levels)) λ a. give (expr.Call (Some a) (codes "-@") [])
+minus_from here levels = token is_minus λ _. call (unary (at_levels here levels)) λ a.
+    give (expr.Call (Some a) (codes "-@") [])
 
 abbrev pub unary_forms : Scope → List (Prod ruby an_expression)
-unary_forms here = opening here.levels (not_from here) ++ (opening here.levels (minus_from here) ++ (only (postfix here) ∷ []))
+unary_forms here = opening here.levels (not_from here) ++
+    (opening here.levels (minus_from here) ++ (only (postfix here) ∷ []))
 
 -- post = prim { "." NAME [ "(" [ args ] ")" ] | "[" expr "]" }
 abbrev pub postfix_from : Scope → Prod ruby an_expression
@@ -90,17 +104,20 @@ abbrev pub postfix_forms : Scope → List (Prod ruby an_expression)
 postfix_forms here = postfix_from here ∷ []
 
 abbrev pub method_call : Scope → Expr → Prod ruby an_expression
-method_call here a = token is_dot λ _. token is_name λ w. call (perhaps_arguments here) λ args. only (more_postfix here (expr.Call (Some a) w.text args))
+method_call here a = token is_dot λ _. token is_name λ w. call (perhaps_arguments here) λ args.
+    only (more_postfix here (expr.Call (Some a) w.text args))
 
 abbrev pub index_from : Scope → Expr → ℕ → Prod ruby an_expression
-index_from here a levels = token is_tight_bracket λ _. call (expression (at_levels here levels)) λ b. token is_close_bracket λ _. only (more_postfix here (expr.Call (Some a) (codes "[]") (b ∷ [])))
+index_from here a levels = token is_tight_bracket λ _. call (expression (at_levels here levels)) λ b.
+    token is_close_bracket λ _. only (more_postfix here (expr.Call (Some a) (codes "[]") (b ∷ [])))
 
 abbrev pub more_postfix_forms : Scope → Expr → List (Prod ruby an_expression)
 more_postfix_forms here a = method_call here a ∷ (opening here.levels (index_from here a) ++ (give a ∷ []))
 
 -- [ "(" [ args ] ")" ]
 abbrev pub arguments_from : Scope → ℕ → Prod ruby some_expressions
-arguments_from here levels = token is_tight_paren λ _. call (members (at_levels here levels) []) λ args. token is_close_paren λ _. give args
+arguments_from here levels = token is_tight_paren λ _. call (members (at_levels here levels) []) λ args.
+    token is_close_paren λ _. give args
 
 abbrev pub perhaps_arguments_forms : Scope → List (Prod ruby some_expressions)
 perhaps_arguments_forms here = opening here.levels (arguments_from here) ++ (give [] ∷ [])
@@ -108,16 +125,20 @@ perhaps_arguments_forms here = opening here.levels (arguments_from here) ++ (giv
 -- prim = INT | text | SYM | "nil" | "true" | "false" | "self" | NAME [ "(" [ args ] ")" ] | IVAR | cref
 --        | "[" [ args ] "]" | "{" [ pair { "," pair } [ "," ] ] "}" | "(" expr ")"
 abbrev pub array_from : Scope → ℕ → Prod ruby an_expression
-array_from here levels = token is_open_bracket λ _. call (members (at_levels here levels) []) λ xs. token is_close_bracket λ _. give (expr.Array xs)
+array_from here levels = token is_open_bracket λ _. call (members (at_levels here levels) []) λ xs.
+    token is_close_bracket λ _. give (expr.Array xs)
 
 abbrev pub hash_from : Scope → ℕ → Prod ruby an_expression
-hash_from here levels = token is_open_brace λ _. call (pairs (at_levels here levels) []) λ ps. token is_close_brace λ _. give (expr.Hash ps)
+hash_from here levels = token is_open_brace λ _. call (pairs (at_levels here levels) []) λ ps.
+    token is_close_brace λ _. give (expr.Hash ps)
 
 abbrev pub group_from : Scope → ℕ → Prod ruby an_expression
-group_from here levels = token is_open_paren λ _. call (expression (at_levels here levels)) λ a. token is_close_paren λ _. give a
+group_from here levels = token is_open_paren λ _. call (expression (at_levels here levels)) λ a.
+    token is_close_paren λ _. give a
 
 abbrev pub text_from : Scope → Prod ruby an_expression
-text_from here = token is_text_open λ w. call (text_parts here (is_double_quote w) []) λ parts. token is_text_close λ _. give (expr.Str parts)
+text_from here = token is_text_open λ w. call (text_parts here (is_double_quote w) []) λ parts.
+    token is_text_close λ _. give (expr.Str parts)
 
 abbrev pub constant_alone : Prod ruby an_expression
 constant_alone = call (constant None) λ c. give (expr.Const c)
@@ -134,11 +155,13 @@ primary_forms here =
     ∷ (token is_name λ w. only (name_rest here w.text))
     ∷ (token is_ivar λ w. give (expr.Ivar (behind_sign w.text)))
     ∷ constant_alone
-    ∷ (opening here.levels (array_from here) ++ (opening here.levels (hash_from here) ++ opening here.levels (group_from here)))
+    ∷ (opening here.levels (array_from here) ++
+    (opening here.levels (hash_from here) ++ opening here.levels (group_from here)))
 
 -- A NAME without parentheses is a local variable where it is known, else a call on self.
 abbrev pub call_from : Scope → Name → ℕ → Prod ruby an_expression
-call_from here name levels = token is_tight_paren λ _. call (members (at_levels here levels) []) λ args. token is_close_paren λ _. give (expr.Call None name args)
+call_from here name levels = token is_tight_paren λ _. call (members (at_levels here levels) []) λ args.
+    token is_close_paren λ _. give (expr.Call None name args)
 
 abbrev pub name_rest_forms : Scope → Name → List (Prod ruby an_expression)
 name_rest_forms here name = opening here.levels (call_from here name) ++ (give (name_alone here.names name) ∷ [])
@@ -174,10 +197,12 @@ pair_forms here = label_pair here ∷ arrow_pair here ∷ []
 
 -- the pieces of a text, and the expressions inside it
 abbrev pub inside_from : Scope → Bool → List Part → ℕ → Prod ruby some_parts
-inside_from here double parts levels = token is_inside_open λ _. call (expression (at_levels here levels)) λ x. token is_inside_close λ _. only (text_parts here double (parts ++ part.Inside x ∷ []))
+inside_from here double parts levels = token is_inside_open λ _. call (expression (at_levels here levels)) λ x.
+    token is_inside_close λ _. only (text_parts here double (parts ++ part.Inside x ∷ []))
 
 abbrev pub piece_from : Scope → Bool → List Part → Prod ruby some_parts
-piece_from here double parts = token is_text_piece λ w. only (text_parts here double (parts ++ part.Plain (text_bytes double w.text) ∷ []))
+piece_from here double parts = token is_text_piece λ w.
+    only (text_parts here double (parts ++ part.Plain (text_bytes double w.text) ∷ []))
 
 abbrev pub text_parts_forms : Scope → Bool → List Part → List (Prod ruby some_parts)
 text_parts_forms here double parts =

@@ -2,9 +2,18 @@
 use Rattle.std.specs.Prelude.{Bool, true, false, ◌||◌, not, Option, Some, None}
 use Rattle.descent.specs.Lawful.{Follow}
 use Rattle.ruby_grammar.specs.Words.{Word}
-use Rattle.ruby_grammar.specs.Signs.{Level, units, products, sums, comparisons, equalities, conjunctions, disjunctions, is_operator, is_end, is_if, is_elsif, is_else, is_unless, is_line, is_ivar, is_ask, is_path, is_dot, is_comma, is_close_paren, is_close_bracket, is_close_brace, is_text_close, is_tight_paren, is_tight_bracket, is_variable}
+use Rattle.ruby_grammar.specs.Signs.{Level, units, products, sums, comparisons, equalities, conjunctions, disjunctions}
+use Rattle.ruby_grammar.specs.Signs.{is_operator, is_end, is_if, is_elsif, is_else, is_unless, is_line, is_ivar, is_ask}
+use Rattle.ruby_grammar.specs.Signs.{is_path, is_dot, is_comma, is_close_paren, is_close_bracket, is_close_brace}
+use Rattle.ruby_grammar.specs.Signs.{is_text_close, is_tight_paren, is_tight_bracket, is_variable}
 use Rattle.ruby_grammar.specs.Choices.{next_is}
-use Rattle.ruby_grammar.specs.Rules.{ruby, Rule, Sort, file, definitions, more_definitions, definition, path_rest, parent, constant, heading, parameter_list, parameters, more_parameters, more_readers, statements, more_statements, statement, simple_statement, condition_behind, then_or_line, perhaps_line, arms_rest, perhaps_expression, expression, choice_rest, operators, more_operators, unary, postfix, more_postfix, primary, name_rest, perhaps_arguments, members, more_members, pairs, more_pairs, pair, text_parts}
+use Rattle.ruby_grammar.specs.Rules.{ruby, Rule, Sort, file, definitions, more_definitions, definition, path_rest}
+use Rattle.ruby_grammar.specs.Rules.{parent, constant, heading, parameter_list, parameters, more_parameters}
+use Rattle.ruby_grammar.specs.Rules.{more_readers, statements, more_statements, statement, simple_statement}
+use Rattle.ruby_grammar.specs.Rules.{condition_behind, then_or_line, perhaps_line, arms_rest, perhaps_expression}
+use Rattle.ruby_grammar.specs.Rules.{expression, choice_rest, operators, more_operators, unary, postfix, more_postfix}
+use Rattle.ruby_grammar.specs.Rules.{primary, name_rest, perhaps_arguments, members, more_members, pairs, more_pairs}
+use Rattle.ruby_grammar.specs.Rules.{pair, text_parts}
 
 -- the end of the words, or a word that passes
 abbrev pub ends_or : (Word → Bool) → Option Word → Bool

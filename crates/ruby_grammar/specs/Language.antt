@@ -3,10 +3,24 @@ use Rattle.std.specs.Prelude.{ℕ, false, List}
 use Rattle.descent.specs.Grammar.{Prod, Grammar, Spells}
 use Rattle.ruby_grammar.specs.Marks.{clashes_any}
 use Rattle.ruby_grammar.specs.Words.{Word}
-use Rattle.ruby_grammar.specs.Rules.{ruby, Sort, Rule, file, definitions, more_definitions, definition, path_rest, parent, constant, heading, parameter_list, parameters, more_parameters, more_readers, statements, more_statements, statement, simple_statement, condition_behind, then_or_line, perhaps_line, arms_rest, perhaps_expression, expression, choice_rest, operators, more_operators, unary, postfix, more_postfix, primary, name_rest, perhaps_arguments, members, more_members, pairs, more_pairs, pair, text_parts}
-use Rattle.ruby_grammar.specs.Expressions.{constant_forms, path_rest_forms, expression_forms, choice_rest_forms, operators_forms, more_operators_forms, unary_forms, postfix_forms, more_postfix_forms, primary_forms, name_rest_forms, perhaps_arguments_forms, members_forms, more_members_forms, pairs_forms, more_pairs_forms, pair_forms, text_parts_forms}
-use Rattle.ruby_grammar.specs.Statements.{statements_forms, more_statements_forms, statement_forms, simple_statement_forms, condition_behind_forms, then_or_line_forms, perhaps_line_forms, arms_rest_forms, perhaps_expression_forms}
-use Rattle.ruby_grammar.specs.Definitions.{file_forms, definitions_forms, more_definitions_forms, definition_forms, parent_forms, heading_forms, parameter_list_forms, parameters_forms, more_parameters_forms, more_readers_forms}
+use Rattle.ruby_grammar.specs.Rules.{ruby, Sort, Rule, file, definitions, more_definitions, definition, path_rest}
+use Rattle.ruby_grammar.specs.Rules.{parent, constant, heading, parameter_list, parameters, more_parameters}
+use Rattle.ruby_grammar.specs.Rules.{more_readers, statements, more_statements, statement, simple_statement}
+use Rattle.ruby_grammar.specs.Rules.{condition_behind, then_or_line, perhaps_line, arms_rest, perhaps_expression}
+use Rattle.ruby_grammar.specs.Rules.{expression, choice_rest, operators, more_operators, unary, postfix, more_postfix}
+use Rattle.ruby_grammar.specs.Rules.{primary, name_rest, perhaps_arguments, members, more_members, pairs, more_pairs}
+use Rattle.ruby_grammar.specs.Rules.{pair, text_parts}
+use Rattle.ruby_grammar.specs.Expressions.{constant_forms, path_rest_forms, expression_forms, choice_rest_forms}
+use Rattle.ruby_grammar.specs.Expressions.{operators_forms, more_operators_forms, unary_forms, postfix_forms}
+use Rattle.ruby_grammar.specs.Expressions.{more_postfix_forms, primary_forms, name_rest_forms, perhaps_arguments_forms}
+use Rattle.ruby_grammar.specs.Expressions.{members_forms, more_members_forms, pairs_forms, more_pairs_forms, pair_forms}
+use Rattle.ruby_grammar.specs.Expressions.{text_parts_forms}
+use Rattle.ruby_grammar.specs.Statements.{statements_forms, more_statements_forms, statement_forms}
+use Rattle.ruby_grammar.specs.Statements.{simple_statement_forms, condition_behind_forms, then_or_line_forms}
+use Rattle.ruby_grammar.specs.Statements.{perhaps_line_forms, arms_rest_forms, perhaps_expression_forms}
+use Rattle.ruby_grammar.specs.Definitions.{file_forms, definitions_forms, more_definitions_forms, definition_forms}
+use Rattle.ruby_grammar.specs.Definitions.{parent_forms, heading_forms, parameter_list_forms, parameters_forms}
+use Rattle.ruby_grammar.specs.Definitions.{more_parameters_forms, more_readers_forms}
 use Rattle.ruby_types.specs.declared.tree.FileTree.{FileTree}
 
 abbrev pub forms : {s : Sort} → Rule s → List (Prod ruby s)

@@ -27,7 +27,8 @@ abbrev pub same_flag : Bool → Bool → Bool
 same_flag true b = b
 same_flag false b = not b
 
--- A path is assigned twice, assigned and opened, opened with another keyword, given a parent twice, or a method of one kind
+-- A path is assigned twice, assigned and opened, opened with another keyword, given a parent twice, or a method of
+-- one kind
 -- and name is defined twice in its body.
 abbrev pub acts_clash : Act → Act → Bool
 acts_clash assigns assigns = true

@@ -94,7 +94,8 @@ pub data Rule : Sort → Type 0 where
   definitions : Body → List Def → Rule some_defs
   more_definitions : Body → List Def → Rule some_defs
   definition : Body → Rule a_def
-  -- what follows the first name of a path: the rest of it (where the flag is true), and behind its end the mark, if there is one
+  -- what follows the first name of a path: the rest of it (where the flag is true), and behind its end the mark, if
+  -- there is one
   path_rest : Bool → Option Mark → List Name → Rule some_names
   -- what follows a class's path: perhaps a parent, and a Line
   parent : Path → ℕ → Rule a_parent

@@ -5,9 +5,12 @@ use Rattle.ruby_types.specs.declared.tree.Expr.TheVariants as expr
 use Rattle.ruby_types.specs.declared.tree.Stmt.{Stmt}
 use Rattle.ruby_types.specs.declared.tree.Stmt.TheVariants as stmt
 use Rattle.descent.specs.Grammar.{Prod, give, token, call, only}
-use Rattle.ruby_grammar.specs.Signs.{is_variable, is_ivar, is_assign, is_return, is_raise, is_if, is_unless, is_elsif, is_else, is_end, is_then, is_line}
-use Rattle.ruby_grammar.specs.Rules.{ruby, Name, Known, Block, Around, Scope, a_statement, a_block, no_value, perhaps_an_expression}
-use Rattle.ruby_grammar.specs.Rules.{statements, more_statements, statement, simple_statement, condition_behind, then_or_line, perhaps_line, arms_rest, perhaps_expression, expression}
+use Rattle.ruby_grammar.specs.Signs.{is_variable, is_ivar, is_assign, is_return, is_raise, is_if, is_unless, is_elsif}
+use Rattle.ruby_grammar.specs.Signs.{is_else, is_end, is_then, is_line}
+use Rattle.ruby_grammar.specs.Rules.{ruby, Name, Known, Block, Around, Scope, a_statement, a_block, no_value}
+use Rattle.ruby_grammar.specs.Rules.{perhaps_an_expression}
+use Rattle.ruby_grammar.specs.Rules.{statements, more_statements, statement, simple_statement, condition_behind}
+use Rattle.ruby_grammar.specs.Rules.{then_or_line, perhaps_line, arms_rest, perhaps_expression, expression}
 use Rattle.ruby_grammar.specs.Values.{behind_sign}
 use Rattle.ruby_grammar.specs.Expressions.{opening}
 
@@ -42,18 +45,22 @@ more_statements_forms here ss = (token is_line λ _. only (statements here ss)) 
 
 -- simple = "return" [ expr ] | "raise" expr | NAME "=" expr | IVAR "=" expr | expr
 abbrev pub returning : Around → Prod ruby a_statement
-returning here = token is_return λ _. call (perhaps_expression (scope_of here)) λ o. give (known (stmt.Return o) here.names)
+returning here = token is_return λ _. call (perhaps_expression (scope_of here)) λ o.
+    give (known (stmt.Return o) here.names)
 
 abbrev pub raising : Around → Prod ruby a_statement
 raising here = token is_raise λ _. call (expression (scope_of here)) λ x. give (known (stmt.Raise x) here.names)
 
 -- the variable is known from its name on
 abbrev pub setting : Around → Prod ruby a_statement
-setting here = token is_variable λ w. token is_assign λ _. call (expression (scope here.levels (w.text ∷ here.names))) λ x. give (known (stmt.Set w.text x) (w.text ∷ here.names))
+setting here = token is_variable λ w. token is_assign λ _.
+    call (expression (scope here.levels (w.text ∷ here.names))) λ x.
+    give (known (stmt.Set w.text x) (w.text ∷ here.names))
 
 -- an instance variable is assigned only in a method `initialize` that isn't a singleton's
 abbrev pub setting_ivar : Around → Prod ruby a_statement
-setting_ivar here = token is_ivar λ w. token is_assign λ _. call (expression (scope_of here)) λ x. give (known (stmt.SetIvar (behind_sign w.text) x) here.names)
+setting_ivar here = token is_ivar λ w. token is_assign λ _. call (expression (scope_of here)) λ x.
+    give (known (stmt.SetIvar (behind_sign w.text) x) here.names)
 
 abbrev pub evaluating : Around → Prod ruby a_statement
 evaluating here = call (expression (scope_of here)) λ x. give (known (stmt.Expr x) here.names)
@@ -63,17 +70,20 @@ where_it_may true a = a ∷ []
 where_it_may false a = []
 
 abbrev pub simple_statement_forms : Around → List (Prod ruby a_statement)
-simple_statement_forms here = returning here ∷ raising here ∷ setting here ∷ (where_it_may here.sets (setting_ivar here) ++ (evaluating here ∷ []))
+simple_statement_forms here = returning here ∷ raising here ∷ setting here ∷
+    (where_it_may here.sets (setting_ivar here) ++ (evaluating here ∷ []))
 
 abbrev pub perhaps_expression_forms : Scope → List (Prod ruby perhaps_an_expression)
 perhaps_expression_forms here = (call (expression here) λ x. give (Some x)) ∷ give None ∷ []
 
 -- simple [ ("if" | "unless") expr ]
 abbrev pub if_behind : ℕ → Known → Prod ruby a_statement
-if_behind levels s = token is_if λ _. call (expression (scope levels s.names)) λ x. give (known (stmt.If ((x, s.stmt ∷ []) ∷ []) [] true) s.names)
+if_behind levels s = token is_if λ _. call (expression (scope levels s.names)) λ x.
+    give (known (stmt.If ((x, s.stmt ∷ []) ∷ []) [] true) s.names)
 
 abbrev pub unless_behind : ℕ → Known → Prod ruby a_statement
-unless_behind levels s = token is_unless λ _. call (expression (scope levels s.names)) λ x. give (known (stmt.If ((expr.Not x, s.stmt ∷ []) ∷ []) [] true) s.names)
+unless_behind levels s = token is_unless λ _. call (expression (scope levels s.names)) λ x.
+    give (known (stmt.If ((expr.Not x, s.stmt ∷ []) ∷ []) [] true) s.names)
 
 abbrev pub condition_behind_forms : ℕ → Known → List (Prod ruby a_statement)
 condition_behind_forms levels s = if_behind levels s ∷ unless_behind levels s ∷ give s ∷ []
@@ -88,9 +98,12 @@ perhaps_line_forms = (token is_line λ _. give tt) ∷ give tt ∷ []
 -- a condition, its statements and what follows them; arms are there before
 abbrev pub arm_from : ℕ → Bool → Bool → (Expr → Expr) → List Name → List (Expr × List Stmt) → Prod ruby a_statement
 arm_from levels sets may_elsif condition names arms =
-    call (expression (scope levels names)) λ x. call then_or_line λ _. call (statements (around levels sets names) []) λ b. only (arms_rest levels sets may_elsif (arms ++ (condition x, b.stmts) ∷ []) b)
+    call (expression (scope levels names)) λ x. call then_or_line λ _.
+    call (statements (around levels sets names) []) λ b.
+    only (arms_rest levels sets may_elsif (arms ++ (condition x, b.stmts) ∷ []) b)
 
--- ("if" | "unless") expr ("then" | L) { stmt L } { "elsif" expr ("then" | L) { stmt L } } [ "else" [ L ] { stmt L } ] "end"
+-- ("if" | "unless") expr ("then" | L) { stmt L } { "elsif" expr ("then" | L) { stmt L } } [ "else" [ L ] { stmt L } ]
+-- "end"
 abbrev pub if_from : Around → ℕ → Prod ruby a_statement
 if_from here levels = token is_if λ _. arm_from levels here.sets true (λ x. x) here.names []
 
@@ -101,7 +114,9 @@ abbrev pub elsif_more : ℕ → Bool → List (Expr × List Stmt) → Block → 
 elsif_more levels sets arms b = token is_elsif λ _. arm_from levels sets true (λ x. x) b.names arms
 
 abbrev pub else_more : ℕ → Bool → List (Expr × List Stmt) → Block → Prod ruby a_statement
-else_more levels sets arms b = token is_else λ _. call perhaps_line λ _. call (statements (around levels sets b.names) []) λ c. token is_end λ _. give (known (stmt.If arms c.stmts false) c.names)
+else_more levels sets arms b = token is_else λ _. call perhaps_line λ _.
+    call (statements (around levels sets b.names) []) λ c. token is_end λ _.
+    give (known (stmt.If arms c.stmts false) c.names)
 
 abbrev pub arms_end : List (Expr × List Stmt) → Block → Prod ruby a_statement
 arms_end arms b = token is_end λ _. give (known (stmt.If arms [] false) b.names)

@@ -1,5 +1,6 @@
 -- The values that words stand for.
-use Rattle.std.specs.Prelude.{ℕ, Bool, false, ◌==◌, ◌&&◌, ◌||◌, List, [], ◌∷◌, if◌then◌else◌, Some, None, ℤ, pos, ◌-ℤ◌, drop, take, length, ◌-◌}
+use Rattle.std.specs.Prelude.{ℕ, Bool, false, ◌==◌, ◌&&◌, ◌||◌, List, [], ◌∷◌, if◌then◌else◌, Some, None, ℤ, pos, ◌-ℤ◌}
+use Rattle.std.specs.Prelude.{drop, take, length, ◌-◌}
 use Rattle.ruby_token.specs.Number.{magnitude}
 use Rattle.ruby_types.specs.declared.tree.Expr.{Expr}
 use Rattle.ruby_types.specs.declared.tree.Expr.TheVariants as expr
@@ -34,7 +35,8 @@ double_text (b ∷ c ∷ bs) = if b == 92 then escaped c ∷ double_text bs else
 abbrev pub single_text : List ℕ → List ℕ
 single_text [] = []
 single_text (b ∷ []) = b ∷ []
-single_text (b ∷ c ∷ bs) = if (b == 92) && ((c == 39) || (c == 92)) then c ∷ single_text bs else b ∷ single_text (c ∷ bs)
+single_text (b ∷ c ∷ bs) = if (b == 92) && ((c == 39) || (c == 92)) then c ∷ single_text bs else b ∷ single_text
+    (c ∷ bs)
 
 abbrev pub text_bytes : Bool → List ℕ → List ℕ
 text_bytes double text = if double then double_text text else single_text text

@@ -20,12 +20,14 @@ pub fn one_tree()
 
 /// The first fault of words is one, and of one kind.
 pub fn one_first_fault()
-    ensures { (ws : List Word) (end at at' : ℕ) (kind kind' : Kind) → FirstFault ws end at kind → FirstFault ws end at' kind' → (at ≡ at') × (kind ≡ kind') }
+    ensures { (ws : List Word) (end at at' : ℕ) (kind kind' : Kind) → FirstFault ws end at kind →
+        FirstFault ws end at' kind' → (at ≡ at') × (kind ≡ kind') }
 {}
 
 /// The words of a file have no fault.
 pub fn no_fault_in_a_file()
-    ensures { (ws : List Word) (tree : FileTree) (end at : ℕ) (kind : Kind) → IsFile ws tree → FirstFault ws end at kind → ⊥ }
+    ensures { (ws : List Word) (tree : FileTree) (end at : ℕ) (kind : Kind) → IsFile ws tree →
+        FirstFault ws end at kind → ⊥ }
 {}
 
 /// Words that a reader by descent reads to their end are a file, and it gives its tree.
@@ -35,7 +37,8 @@ pub fn what_is_read_is_a_file()
 
 /// Where a reader by descent stops is the first fault of the words, of the kind that it tells.
 pub fn what_stops_is_the_first_fault()
-    ensures { (ws : List Word) (end : ℕ) (o : Outcome ruby a_tree) → ReadsFile ws o → IsFault o → FirstFault ws end (fault_place end o) (fault_kind o) }
+    ensures { (ws : List Word) (end : ℕ) (o : Outcome ruby a_tree) → ReadsFile ws o → IsFault o →
+        FirstFault ws end (fault_place end o) (fault_kind o) }
 {}
 
 /// The bytes of a text have one tree.
@@ -45,7 +48,8 @@ pub fn one_text()
 
 /// The first fault of a file's bytes is one, and there is one reason for it.
 pub fn one_reason()
-    ensures { (bytes : List ℕ) (at at' : ℕ) (why why' : Why) → NoText bytes at why → NoText bytes at' why' → (at ≡ at') × (why ≡ why') }
+    ensures { (bytes : List ℕ) (at at' : ℕ) (why why' : Why) → NoText bytes at why → NoText bytes at' why' →
+        (at ≡ at') × (why ≡ why') }
 {}
 
 /// The bytes of a text have no fault.
@@ -55,5 +59,6 @@ pub fn no_fault_in_a_text()
 
 /// The numbers of a file that is cut into tokens are in range, before a fault of the lexer too.
 pub fn numbers_fit()
-    ensures { (bytes : List ℕ) (ts : List Token) (e : Option LexFault) → Lexes bytes (with_fault ts e) → NumbersFit (words_of bytes ts) }
+    ensures { (bytes : List ℕ) (ts : List Token) (e : Option LexFault) → Lexes bytes (with_fault ts e) →
+        NumbersFit (words_of bytes ts) }
 {}

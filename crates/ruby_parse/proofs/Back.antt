@@ -20,8 +20,17 @@ read_back bytes text tree e t =
     let spelled = formed_is_spelled tree formed in
     let lexed = formed_is_lexed tree formed in
     let P : List Word → Type 0 = λ ws. Spells ruby_grammar (file spelled.0 false) ws tree in
-    subst (λ b. IsDeepText b tree) (sym e) (spelled.0, record { tokens = tokens_at 0 (file_pieces tree); lexed = lexed.0; spelled = subst P (sym lexed.1) spelled.1 })
+    subst (λ b. IsDeepText b tree) (sym e) (
+      spelled.0,
+      record {
+        tokens = tokens_at 0 (file_pieces tree);
+        lexed = lexed.0;
+        spelled =
+            subst P (sym lexed.1) spelled.1;
+      },
+    )
 
-pub result_read_back : {E : Type 0} (r : Result (List ℕ) E) (tree : FileTree) → IfOk r (λ text. text ≡ print tree) → IfOk r (λ text. (bytes : List ℕ) → IsText bytes tree → IsDeepText text tree)
+pub result_read_back : {E : Type 0} (r : Result (List ℕ) E) (tree : FileTree) → IfOk r (λ text. text ≡ print tree) →
+    IfOk r (λ text. (bytes : List ℕ) → IsText bytes tree → IsDeepText text tree)
 result_read_back (Ok text) tree e = λ bytes t. read_back bytes text tree e t
 result_read_back (Err x) tree e = tt

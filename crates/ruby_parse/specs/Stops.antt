@@ -38,7 +38,8 @@ stop_of end ws f.Memory = stop 0 k.Memory
 
 -- A reader of these words, which end at a place, stops so, or memory wants.
 pub data Stopped (ws : List Word) (end : ℕ) : SyntaxFault → Type 0 where
-  stopped : (o : Outcome ruby a_tree) → ReadsFile ws o → IsFault o → Stopped ws end (stop (fault_place end o) (kind_view (fault_kind o)))
+  stopped : (o : Outcome ruby a_tree) → ReadsFile ws o → IsFault o →
+      Stopped ws end (stop (fault_place end o) (kind_view (fault_kind o)))
   wanting : Stopped ws end (stop 0 k.Memory)
 
 -- A reader of these words gives a whole file, or stops.

@@ -38,7 +38,8 @@ fn of_lexer(fault: LexFault) -> SyntaxFault
 
 /// The earlier one of a fault of the reader and one of the lexer, and the lexer's of two at one place.
 fn earlier(stop: SyntaxFault, lexical: LexFault) -> SyntaxFault
-    ensures { (bytes : List ℕ) (tokens : List Token) → Lexes bytes (fault tokens lexical.kind lexical.at) → Stopped (words_of bytes tokens) lexical.at stop → IsFaultOf bytes result }
+    ensures { (bytes : List ℕ) (tokens : List Token) → Lexes bytes (fault tokens lexical.kind lexical.at) →
+        Stopped (words_of bytes tokens) lexical.at stop → IsFaultOf bytes result }
 {
     if stop.at < lexical.at {
         stop
@@ -49,7 +50,8 @@ fn earlier(stop: SyntaxFault, lexical: LexFault) -> SyntaxFault
 
 /// The first fault of a file with this fault of the lexer, where this was read of the words before it.
 fn first_fault(read: Result<FileTree, SyntaxFault>, lexical: LexFault) -> SyntaxFault
-    ensures { (bytes : List ℕ) (tokens : List Token) → Lexes bytes (fault tokens lexical.kind lexical.at) → GivesTree (words_of bytes tokens) lexical.at read → IsFaultOf bytes result }
+    ensures { (bytes : List ℕ) (tokens : List Token) → Lexes bytes (fault tokens lexical.kind lexical.at) →
+        GivesTree (words_of bytes tokens) lexical.at read → IsFaultOf bytes result }
 {
     match read {
         Ok(_tree) => of_lexer(lexical),
@@ -63,7 +65,8 @@ pub fn parse(alloc: Global, bytes: &[u8]) -> Result<FileTree, SyntaxFault>
     // The bytes are a text of the profile, and this is its tree.
     ensures found { IfOk result (λ tree. IsText bytes.now tree) }
     // A text has no other tree and no fault; only memory may want.
-    ensures only { (tree : Tree) → IsText bytes.now tree → MatchResult result (λ found. found ≡ tree) (λ e. e.kind ≡ SyntaxKind.Memory) }
+    ensures only { (tree : Tree) → IsText bytes.now tree →
+        MatchResult result (λ found. found ≡ tree) (λ e. e.kind ≡ SyntaxKind.Memory) }
     // Otherwise the fault is the first one of the bytes.
     ensures fault { IfErr result (IsFaultOf bytes.now) }
 {

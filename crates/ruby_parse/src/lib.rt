@@ -1,4 +1,5 @@
-//! Files of the Ruby profile as trees: [`parse`] gives a file's tree or its first fault, and [`print`] a text of a tree.
+//! Files of the Ruby profile as trees: [`parse`] gives a file's tree or its first fault, and [`print`] a text of a
+//! tree.
 #![tactic(auto)]
 
 mod fault;

@@ -8,9 +8,9 @@ ghost use Rattle.ruby_grammar.specs.Answers.{kind_of_next};
 ghost use Rattle.ruby_parse.specs.Stops.{kind_view, left_over, stop_of, GivesTree};
 
 use crate::fault::{MEMORY, SyntaxFault, SyntaxKind};
-use ruby_parse_definition::file;
 use ruby_parse_cursor::signs::is_left_out;
 use ruby_parse_cursor::{Fault, Reader};
+use ruby_parse_definition::file;
 use ruby_token::Token;
 use ruby_types::FileTree;
 use ruby_words::ruby_words;

@@ -1,5 +1,6 @@
 -- The code of the word at hand, and its sign.
-use Rattle.std.proofs.Common.{◌≡◌, ℕ, Bool, true, false, ◌&&◌, ◌==◌, List, [], ◌∷◌, Option, Some, None, refl, sym, subst, ap, ◌∙◌, arith, ⊎_elim}
+use Rattle.std.proofs.Common.{◌≡◌, ℕ, Bool, true, false, ◌&&◌, ◌==◌, List, [], ◌∷◌, Option, Some, None, refl, sym}
+use Rattle.std.proofs.Common.{subst, ap, ◌∙◌, arith, ⊎_elim}
 use Rattle.std.specs.Prelude.{nat_le}
 use Rattle.std.proofs.lemmas.Bool.{cases_Bool, cond-true, cond-false}
 use Rattle.std.proofs.lemmas.Bool.Decides.{nat_tests}
@@ -38,7 +39,8 @@ sees_code [] c e = none_some c e
 sees_code (w ∷ ws) c e = subst (λ n. (n == c) ≡ true) (sym (code_is (sign w) c e)) (alike c)
 
 -- the word at hand has another code or none, so it isn't this word
-pub lacks_code : (ws : List Word) (c : ℕ) → is_code c ≡ true → (code_view (head_sign ws) ≡ Some c → ⊥) → next_is (is c) (head ws) ≡ false
+pub lacks_code : (ws : List Word) (c : ℕ) → is_code c ≡ true → (code_view (head_sign ws) ≡ Some c → ⊥) →
+    next_is (is c) (head ws) ≡ false
 lacks_code [] c y h = refl
 lacks_code (w ∷ ws) c y h =
     ⊎_elim
@@ -47,6 +49,7 @@ lacks_code (w ∷ ws) c y h =
     (cases_Bool (sign w == c))
 
 -- the word at hand has another code, so it isn't this word
-pub other_code : (ws : List Word) (c d : ℕ) → code_view (head_sign ws) ≡ Some c → (c == d) ≡ false → next_is (is d) (head ws) ≡ false
+pub other_code : (ws : List Word) (c d : ℕ) → code_view (head_sign ws) ≡ Some c → (c == d) ≡ false →
+    next_is (is d) (head ws) ≡ false
 other_code [] c d e h = refl
 other_code (w ∷ ws) c d e h = subst (λ n. (n == d) ≡ false) (sym (code_is (sign w) c e)) h

@@ -1,5 +1,6 @@
 -- The code that the table gives a name is the name's sign.
-use Rattle.std.proofs.Common.{◌≡◌, ℕ, zero, suc, Bool, true, ◌&&◌, ◌==◌, List, [], ◌∷◌, Option, Some, None, slice_get, refl, sym, subst, ◌∙◌, arith}
+use Rattle.std.proofs.Common.{◌≡◌, ℕ, zero, suc, Bool, true, ◌&&◌, ◌==◌, List, [], ◌∷◌, Option, Some, None, slice_get}
+use Rattle.std.proofs.Common.{refl, sym, subst, ◌∙◌, arith}
 use Rattle.std.proofs.lemmas.Bool.{and_parts, cases_Bool, cond-false}
 use Rattle.std.proofs.lemmas.Bool.Decides.{nat_tests}
 use Rattle.std.proofs.lemmas.Slice.Eq.{bytes_eq-Decides}
@@ -26,17 +27,21 @@ one_row r s e = cc
 same : (m n : ℕ) → (m == n) ≡ true → m ≡ n
 same m n h = grind (arith, nat_tests)
 
-found : (all rows : List Row) (i : ℕ) (r : Row) → are_found all rows ≡ true → slice_get rows i ≡ Some r → code_in all r.0 ≡ r.1
+found : (all rows : List Row) (i : ℕ) (r : Row) → are_found all rows ≡ true → slice_get rows i ≡ Some r →
+    code_in all r.0 ≡ r.1
 found all [] i r h e = no_row _ r e
-found all (x ∷ rows) zero r h e = subst (λ (q : Row). code_in all q.0 ≡ q.1) (one_row x r e) (same (code_in all x.0) x.1 (and_parts _ _ h).0)
+found all (x ∷ rows) zero r h e = subst (λ (q : Row). code_in all q.0 ≡ q.1) (one_row x r e)
+    (same (code_in all x.0) x.1 (and_parts _ _ h).0)
 found all (x ∷ rows) (suc i) r h e = found all rows i r (and_parts _ _ h).1 e
 
 words_are_found : are_found word_rows word_rows ≡ true
 words_are_found = refl
 
-pub has_code : (rows : List Row) (name : List ℕ) (code : ℕ) → rows ≡ word_rows → HasCode rows name code → code ≡ name_sign name
+pub has_code : (rows : List Row) (name : List ℕ) (code : ℕ) → rows ≡ word_rows → HasCode rows name code →
+    code ≡ name_sign name
 has_code rows name code e h =
-    let get : slice_get word_rows h.0 ≡ Some (name, code) = subst (λ (l : List Row). slice_get l h.0 ≡ Some (name, code)) e h.1 in
+    let get : slice_get word_rows h.0 ≡ Some (name, code) =
+    subst (λ (l : List Row). slice_get l h.0 ≡ Some (name, code)) e h.1 in
     sym (found word_rows word_rows h.0 (name, code) words_are_found get)
 
 none_in : (rows : List Row) (name : List ℕ) → HasNone rows name → code_in rows name ≡ 0

@@ -12,7 +12,8 @@ grows n [] = omega arith
 grows n (b ∷ bs) =
     by_test (λ x. n ≤ magnitude_from x bs) (b == 95) n (10 * n + (b - 48))
     (grows n bs)
-    (let i : 10 * n + (b - 48) ≤ magnitude_from (10 * n + (b - 48)) bs = grows (10 * n + (b - 48)) bs in omega (arith, i))
+    (let i : 10 * n + (b - 48) ≤ magnitude_from (10 * n + (b - 48)) bs = grows (10 * n + (b - 48)) bs in
+    omega (arith, i))
 
 -- what was read so far is within what all digits give
 pub within : (n total limit : ℕ) (bs : List ℕ) → magnitude_from n bs ≡ total → total ≤ limit → n ≤ limit

@@ -1,5 +1,6 @@
 -- The last byte of a name.
-use Rattle.std.proofs.Common.{◌≡◌, ℕ, zero, suc, ◌-◌, ◌≤◌, List, [], ◌∷◌, get_or, length, refl, sym, ◌∙◌, ap, subst, true, ◌==◌, ◌||◌, ⊎_elim, arith}
+use Rattle.std.proofs.Common.{◌≡◌, ℕ, zero, suc, ◌-◌, ◌≤◌, List, [], ◌∷◌, get_or, length, refl, sym, ◌∙◌, ap, subst}
+use Rattle.std.proofs.Common.{true, ◌==◌, ◌||◌, ⊎_elim, arith}
 use Rattle.std.proofs.lemmas.Bool.{cases_Bool}
 use Rattle.std.proofs.lemmas.Bool.Decides.{nat_tests}
 use Rattle.ruby_token.specs.Bytes.{is_suffix}
@@ -18,7 +19,8 @@ last_byte (b ∷ bs) h = at bs b (length (b ∷ bs) - 1) (omega arith)
 same : (m n : ℕ) → (m == n) ≡ true → m ≡ n
 same m n h = grind (arith, nat_tests)
 
-pub asks : (xs : List ℕ) → 1 ≤ length xs → get_or xs (length xs - 1) 0 ≡ 63 → (get_or xs (length xs - 1) 0 == 63) ≡ ends_in_suffix xs
+pub asks : (xs : List ℕ) → 1 ≤ length xs → get_or xs (length xs - 1) 0 ≡ 63 → (get_or xs (length xs - 1) 0 == 63)
+    ≡ ends_in_suffix xs
 asks xs h e = subst (λ x. (x == 63) ≡ is_suffix x) (sym e) refl ∙ sym (last_byte xs h)
 
 warns : (g : ℕ) → (g ≡ 63 → ⊥) → (g == 33) ≡ is_suffix g
@@ -28,5 +30,6 @@ warns g n =
     (λ e. ap (λ b. b || (g == 33)) (sym e))
     (cases_Bool (g == 63))
 
-pub warns_or_not : (xs : List ℕ) → 1 ≤ length xs → (get_or xs (length xs - 1) 0 ≡ 63 → ⊥) → (get_or xs (length xs - 1) 0 == 33) ≡ ends_in_suffix xs
+pub warns_or_not : (xs : List ℕ) → 1 ≤ length xs → (get_or xs (length xs - 1) 0 ≡ 63 → ⊥) →
+    (get_or xs (length xs - 1) 0 == 33) ≡ ends_in_suffix xs
 warns_or_not xs h n = warns (get_or xs (length xs - 1) 0) n ∙ sym (last_byte xs h)

@@ -23,7 +23,8 @@ left_out_sign n = (nat_le 18 n && nat_le n 47) || (n == 99)
 
 abbrev pub expression_sign : ℕ → Bool
 expression_sign n =
-    (n == 55) || (n == 56) || (n == 54) || (n == 12) || (n == 13) || (n == 14) || (n == 11) || (n == 0) || (n == 52) || (n == 86) || (n == 51)
+    (n == 55) || (n == 56) || (n == 54) || (n == 12) || (n == 13) || (n == 14) || (n == 11) || (n == 0) ||
+    (n == 52) || (n == 86) || (n == 51)
     || (n == 93) || (n == 95) || (n == 91) || (n == 72) || (n == 80)
 
 abbrev pub statement_sign : ℕ → Bool

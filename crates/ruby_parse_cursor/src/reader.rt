@@ -1,6 +1,7 @@
 //! The words of a file that are left to read.
 
-ghost use Rattle.std.specs.Prelude.{◌≡◌, ◌∷◌, ◌&&◌, ◌==◌, ◌<◌, [], drop, true, false, MatchOption, IfOk, OnOk, OnErr, IfErr};
+ghost use Rattle.std.specs.Prelude.{◌≡◌, ◌∷◌, ◌&&◌, ◌==◌, ◌<◌, [], drop, true, false, MatchOption, IfOk, OnOk, OnErr};
+ghost use Rattle.std.specs.Prelude.{IfErr};
 ghost use Rattle.ruby_words.specs.Words.{word_rows};
 ghost use Rattle.ruby_grammar.specs.Words as spec;
 ghost use Rattle.ruby_token.specs.Spans.{text_of};
@@ -43,7 +44,9 @@ impl<'a> Model for Reader<'a> {
 
     ghost view = { λ r. words_behind r.bytes.now r.before r.rest.now };
 
-    ghost invariant = { λ r. (r.words.now ≡ word_rows) × (r.sign ≡ head_sign (words_behind r.bytes.now r.before r.rest.now)) × NumbersFit (words_behind r.bytes.now r.before r.rest.now) };
+    ghost invariant = { λ r. (r.words.now ≡ word_rows)
+        × (r.sign ≡ head_sign (words_behind r.bytes.now r.before r.rest.now))
+        × NumbersFit (words_behind r.bytes.now r.before r.rest.now) };
 }
 
 /// The bytes from this place on.
@@ -67,7 +70,8 @@ fn text_of(bytes: &[u8], token: Token) -> &[u8]
 }
 
 fn word_of(bytes: &[u8], before: u32, token: Token) -> Word<'_>
-    ensures { word_view result ≡ record { kind = token.kind; text = text_of bytes.now token; tight = before == token.from; at = token.from } }
+    ensures { word_view result
+        ≡ record { kind = token.kind; text = text_of bytes.now token; tight = before == token.from; at = token.from } }
 {
     Word {
         kind: token.kind,
@@ -220,7 +224,8 @@ impl<'a> Reader<'a> {
 
     /// Passes over a number, which has to be at hand, and gives its value.
     pub fn number(&mut self) -> Result<i64, Fault>
-        ensures ok { IfOk result (λ n. (w : spec.Word) × (self.old ≡ w ∷ self.new) × (is_int w ≡ true) × (n ≡ number_of w.text)) }
+        ensures ok { IfOk result (λ n. (w : spec.Word) × (self.old ≡ w ∷ self.new) × (is_int w ≡ true)
+            × (n ≡ number_of w.text)) }
         ensures fault { IfErr result (λ e. e ≡ Fault.Unexpected) }
         ensures stays { OnErr result (self.new ≡ self.old) }
         ensures other { OnErr result (next_is is_int (head self.old) ≡ false) }

@@ -1,4 +1,5 @@
-//! What each word is to the grammar: one number for each reserved or left-out word, each kind of token and each operator.
+//! What each word is to the grammar: one number for each reserved or left-out word, each kind of token and each
+//! operator.
 
 ghost use Rattle.std.specs.Prelude.{◌≡◌};
 ghost use Rattle.ruby_words.specs.Words.{word_rows};

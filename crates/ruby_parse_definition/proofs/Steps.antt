@@ -1,9 +1,11 @@
 -- Steps of the reading of definitions, with the marks that are met.
-use Rattle.std.proofs.Common.{◌≡◌, ℕ, Bool, true, false, ◌==◌, ◌≤◌, ◌<◌, ◌-◌, List, [], ◌∷◌, drop, length, refl, sym, ap, ◌∙◌, subst, arith, Result, Ok, Err}
+use Rattle.std.proofs.Common.{◌≡◌, ℕ, Bool, true, false, ◌==◌, ◌≤◌, ◌<◌, ◌-◌, List, [], ◌∷◌, drop, length, refl, sym}
+use Rattle.std.proofs.Common.{ap, ◌∙◌, subst, arith, Result, Ok, Err}
 use Rattle.std.proofs.lemmas.Bool.Decides.{nat_tests}
 use Rattle.std.proofs.lemmas.List.{length-drop}
 use Rattle.descent.specs.Grammar.{Prod, give, token, call, mark, only}
-use Rattle.descent.specs.Reading.{take, too_deep, nothing, head, choose, done, fault, Unexpected, Deep, Barred, Twice, by_give, by_word, by_mark, by_clash, by_depth, by_nothing}
+use Rattle.descent.specs.Reading.{take, too_deep, nothing, head, choose, done, fault, Unexpected, Deep, Barred, Twice}
+use Rattle.descent.specs.Reading.{by_give, by_word, by_mark, by_clash, by_depth, by_nothing}
 use Rattle.ruby_grammar.specs.Words.{Word}
 use Rattle.ruby_grammar.specs.Marks.{Mark}
 use Rattle.ruby_grammar.specs.Signs.{is, sign}
@@ -20,78 +22,99 @@ use Rattle.ruby_parse_definition.specs.Answers.{GivesMarked, Leads, Counted}
 pub stays : {s : Sort} (p : Prod ruby s) (ms : List Mark) (ws : List Word) → Leads p ms ws p ms ws
 stays p ms ws = λ o h. h
 
-pub word : {s : Sort} (test : Word → Bool) (next : Word → Prod ruby s) (w : Word) (ms : List Mark) (ws mid : List Word) → ws ≡ w ∷ mid → test w ≡ true → Leads (token test next) ms ws (next w) ms mid
+pub word : {s : Sort} (test : Word → Bool) (next : Word → Prod ruby s) (w : Word) (ms : List Mark)
+    (ws mid : List Word) → ws ≡ w ∷ mid → test w ≡ true → Leads (token test next) ms ws (next w) ms mid
 word test next w ms ws mid e p = λ o h. subst (λ l. Comes (token test next) ms l o) (sym e) (by_word p h)
 
-pub skip : {s : Sort} (test : Word → Bool) (p : Prod ruby s) (ms : List Mark) (ws mid : List Word) → next_is test (head ws) ≡ true → mid ≡ drop 1 ws → Leads (token test λ _. p) ms ws p ms mid
+pub skip : {s : Sort} (test : Word → Bool) (p : Prod ruby s) (ms : List Mark) (ws mid : List Word) →
+    next_is test (head ws) ≡ true → mid ≡ drop 1 ws → Leads (token test λ _. p) ms ws p ms mid
 skip test p ms ws mid t d = λ o h. token_skips test (λ _. p) ms ws o t (λ _. subst (λ l. Comes p ms l o) d h)
 
-pub picked : {s : Sort} (rule : Rule s) (p : Prod ruby s) (ms : List Mark) (ws : List Word) → choose ruby_choices rule ws ≡ take p → Leads (only rule) ms ws p ms ws
+pub picked : {s : Sort} (rule : Rule s) (p : Prod ruby s) (ms : List Mark) (ws : List Word) →
+    choose ruby_choices rule ws ≡ take p → Leads (only rule) ms ws p ms ws
 picked rule p ms ws c = λ o h. chosen rule p ms ws o c h
 
-pub after : {s v : Sort} (rule : Rule v) (next : Val v → Prod ruby s) (y : Val v) (ms ns : List Mark) (ws rest : List Word) → Comes (only rule) ms ws (done y ns rest) → Leads (call rule next) ms ws (next y) ns rest
+pub after : {s v : Sort} (rule : Rule v) (next : Val v → Prod ruby s) (y : Val v) (ms ns : List Mark)
+    (ws rest : List Word) → Comes (only rule) ms ws (done y ns rest) → Leads (call rule next) ms ws (next y) ns rest
 after rule next y ms ns ws rest a = λ o h. called rule next ms ns ws rest y o a h
 
-pub quietly : {s v : Sort} (rule : Rule v) (next : Val v → Prod ruby s) (y : Val v) (ms : List Mark) (ws rest : List Word) → GivesRule {s = v} rule ws (Ok y) rest → Leads (call rule next) ms ws (next y) ms rest
+pub quietly : {s v : Sort} (rule : Rule v) (next : Val v → Prod ruby s) (y : Val v) (ms : List Mark)
+    (ws rest : List Word) → GivesRule {s = v} rule ws (Ok y) rest → Leads (call rule next) ms ws (next y) ms rest
 quietly rule next y ms ws rest g = λ o h. called rule next ms ms ws rest y o (g ms) h
 
-pub counted : {s : Sort} (m : Mark) (p : Prod ruby s) (ms ns : List Mark) (ws : List Word) (u : Unit {0}) → Counted ms m (Ok u) ns → Leads (mark m p) ms ws p ns ws
+pub counted : {s : Sort} (m : Mark) (p : Prod ruby s) (ms ns : List Mark) (ws : List Word) (u : Unit {0}) →
+    Counted ms m (Ok u) ns → Leads (mark m p) ms ws p ns ws
 counted m p ms ns ws u c = λ o h. by_mark c.0 (subst (λ l. Comes p l ws o) c.1 h)
 
-pub then : {s : Sort} {p q r : Prod ruby s} {ms ns os : List Mark} {ws mid rest : List Word} → Leads p ms ws q ns mid → Leads q ns mid r os rest → Leads p ms ws r os rest
+pub then : {s : Sort} {p q r : Prod ruby s} {ms ns os : List Mark} {ws mid rest : List Word} →
+    Leads p ms ws q ns mid → Leads q ns mid r os rest → Leads p ms ws r os rest
 then a b = λ o h. a o (b o h)
 
 -- ---- the end
-pub finish : {s : Sort} (p : Prod ruby s) (x : Val s) (ms ns : List Mark) (ws rest : List Word) → Leads {s = s} p ms ws (give x) ns rest → Comes {s = s} p ms ws (done x ns rest)
+pub finish : {s : Sort} (p : Prod ruby s) (x : Val s) (ms ns : List Mark) (ws rest : List Word) →
+    Leads {s = s} p ms ws (give x) ns rest → Comes {s = s} p ms ws (done x ns rest)
 finish p x ms ns ws rest a = a (done x ns rest) by_give
 
-pub stop : {s : Sort} (p q : Prod ruby s) (ms ns : List Mark) (ws mid rest : List Word) (e : Fault) → Leads p ms ws q ns mid → Stops q ns mid e rest → Stops p ms ws e rest
+pub stop : {s : Sort} (p q : Prod ruby s) (ms ns : List Mark) (ws mid rest : List Word) (e : Fault) →
+    Leads p ms ws q ns mid → Stops q ns mid e rest → Stops p ms ws e rest
 stop p q ms ns ws mid rest f.Unexpected a h = a (fault Unexpected rest) h
 stop p q ms ns ws mid rest f.Deep a h = a (fault Deep rest) h
 stop p q ms ns ws mid rest f.Barred a h = a (fault Barred rest) h
 stop p q ms ns ws mid rest (f.Twice at) a h = (h.0, a (fault (Twice h.0) rest) h.1, h.2)
 stop p q ms ns ws mid rest f.Memory a h = tt
 
-unexpected : {s : Sort} (p : Prod ruby s) (ms : List Mark) (ws rest : List Word) (e : Fault) → rest ≡ ws → e ≡ f.Unexpected → Comes p ms ws (fault Unexpected ws) → Stops p ms ws e rest
-unexpected p ms ws rest e d u h = subst (λ x. Stops p ms ws x rest) (sym u) (subst (λ l. Comes p ms ws (fault Unexpected l)) (sym d) h)
+unexpected : {s : Sort} (p : Prod ruby s) (ms : List Mark) (ws rest : List Word) (e : Fault) → rest ≡ ws →
+    e ≡ f.Unexpected → Comes p ms ws (fault Unexpected ws) → Stops p ms ws e rest
+unexpected p ms ws rest e d u h = subst (λ x. Stops p ms ws x rest) (sym u)
+    (subst (λ l. Comes p ms ws (fault Unexpected l)) (sym d) h)
 
-pub lacks : {s : Sort} (test : Word → Bool) (next : Word → Prod ruby s) (ms : List Mark) (ws rest : List Word) (e : Fault) → rest ≡ ws → next_is test (head ws) ≡ false → e ≡ f.Unexpected → Stops (token test next) ms ws e rest
+pub lacks : {s : Sort} (test : Word → Bool) (next : Word → Prod ruby s) (ms : List Mark) (ws rest : List Word)
+    (e : Fault) → rest ≡ ws → next_is test (head ws) ≡ false → e ≡ f.Unexpected → Stops (token test next) ms ws e rest
 lacks test next ms ws rest e d t u = unexpected (token test next) ms ws rest e d u (token_fails test next ms ws t)
 
-pub none : {s : Sort} (rule : Rule s) (ms : List Mark) (ws rest : List Word) (e : Fault) → rest ≡ ws → choose ruby_choices rule ws ≡ nothing → e ≡ f.Unexpected → Stops (only rule) ms ws e rest
+pub none : {s : Sort} (rule : Rule s) (ms : List Mark) (ws rest : List Word) (e : Fault) → rest ≡ ws →
+    choose ruby_choices rule ws ≡ nothing → e ≡ f.Unexpected → Stops (only rule) ms ws e rest
 none rule ms ws rest e d c u = unexpected (only rule) ms ws rest e d u (by_nothing c)
 
-pub deep : {s : Sort} (rule : Rule s) (ms : List Mark) (ws : List Word) (e : Fault) → choose ruby_choices rule ws ≡ too_deep → e ≡ f.Deep → Stops (only rule) ms ws e ws
+pub deep : {s : Sort} (rule : Rule s) (ms : List Mark) (ws : List Word) (e : Fault) →
+    choose ruby_choices rule ws ≡ too_deep → e ≡ f.Deep → Stops (only rule) ms ws e ws
 deep rule ms ws e c u = subst (λ x. Stops (only rule) ms ws x ws) (sym u) (by_depth c)
 
-pub breaks : {s v : Sort} (rule : Rule v) (next : Val v → Prod ruby s) (ms : List Mark) (ws rest : List Word) (e : Fault) → Stops (only rule) ms ws e rest → Stops (call rule next) ms ws e rest
+pub breaks : {s v : Sort} (rule : Rule v) (next : Val v → Prod ruby s) (ms : List Mark) (ws rest : List Word)
+    (e : Fault) → Stops (only rule) ms ws e rest → Stops (call rule next) ms ws e rest
 breaks rule next ms ws rest e h = stops_call rule next ms ws rest e h
 
-pub breaks_quietly : {s v : Sort} (rule : Rule v) (next : Val v → Prod ruby s) (ms : List Mark) (ws rest : List Word) (e : Fault) → GivesRule {s = v} rule ws (Err e) rest → Stops (call rule next) ms ws e rest
+pub breaks_quietly : {s v : Sort} (rule : Rule v) (next : Val v → Prod ruby s) (ms : List Mark) (ws rest : List Word)
+    (e : Fault) → GivesRule {s = v} rule ws (Err e) rest → Stops (call rule next) ms ws e rest
 breaks_quietly rule next ms ws rest e g = stops_call rule next ms ws rest e (g ms)
 
-pub clashes : {s : Sort} (m : Mark) (p : Prod ruby s) (ms : List Mark) (ws : List Word) (e : Fault) → Refused ms m e → Stops (mark m p) ms ws e ws
+pub clashes : {s : Sort} (m : Mark) (p : Prod ruby s) (ms : List Mark) (ws : List Word) (e : Fault) →
+    Refused ms m e → Stops (mark m p) ms ws e ws
 clashes m p ms ws f.Unexpected h = absurd h
 clashes m p ms ws f.Deep h = absurd h
 clashes m p ms ws f.Barred h = absurd h
 clashes m p ms ws (f.Twice at) h = (m, by_clash h.0, h.1)
 clashes m p ms ws f.Memory h = tt
 
-pub unmade : {s : Sort} (p : Prod ruby s) (ms : List Mark) (ws rest : List Word) (e : Fault) → e ≡ f.Memory → Stops p ms ws e rest
+pub unmade : {s : Sort} (p : Prod ruby s) (ms : List Mark) (ws rest : List Word) (e : Fault) → e ≡ f.Memory →
+    Stops p ms ws e rest
 unmade p ms ws rest e u = subst (λ x. Stops p ms ws x rest) (sym u) tt
 
 -- ---- words of two signs
 is_same : (m n : ℕ) → (m == n) ≡ true → m ≡ n
 is_same m n h = grind (arith, nat_tests)
 
-pub apart : (m n : ℕ) (ws : List Word) → (m == n) ≡ false → next_is (is m) (head ws) ≡ true → next_is (is n) (head ws) ≡ false
+pub apart : (m n : ℕ) (ws : List Word) → (m == n) ≡ false → next_is (is m) (head ws) ≡ true →
+    next_is (is n) (head ws) ≡ false
 apart m n [] d p = refl
 apart m n (w ∷ ws) d p = subst (λ k. (k == n) ≡ false) (sym (is_same (sign w) m p)) d
 
 -- ---- lengths
-pub skip_falls : (test : Word → Bool) (ws mid : List Word) → next_is test (head ws) ≡ true → mid ≡ drop 1 ws → length mid < length ws
+pub skip_falls : (test : Word → Bool) (ws mid : List Word) → next_is test (head ws) ≡ true → mid ≡ drop 1 ws →
+    length mid < length ws
 skip_falls test [] mid t d = absurd (cc)
-skip_falls test (w ∷ ws) mid t d = let a : length mid ≡ length (w ∷ ws) - 1 = ap length d ∙ length-drop 1 (w ∷ ws) in omega (arith, a)
+skip_falls test (w ∷ ws) mid t d = let a : length mid ≡ length (w ∷ ws) - 1 = ap length d ∙ length-drop 1 (w ∷ ws) in
+    omega (arith, a)
 
 pub drop_shorter : (ws mid : List Word) → mid ≡ drop 1 ws → length mid ≤ length ws
 drop_shorter ws mid d = let a : length mid ≡ length ws - 1 = ap length d ∙ length-drop 1 ws in omega (arith, a)
@@ -100,10 +123,13 @@ pub word_shorter : (ws mid : List Word) (w : Word) → ws ≡ w ∷ mid → leng
 word_shorter ws mid w e = let a : length ws ≡ length (w ∷ mid) = ap length e in omega (arith, a)
 
 -- ---- what functions answer
-pub led : {s : Sort} (p q : Prod ruby s) (ws mid rest : List Word) (r : Result (Val s) Fault) → ((ms : List Mark) → Leads p ms ws q ms mid) → Gives {s = s} q mid r rest → Gives {s = s} p ws r rest
+pub led : {s : Sort} (p q : Prod ruby s) (ws mid rest : List Word) (r : Result (Val s) Fault) →
+    ((ms : List Mark) → Leads p ms ws q ms mid) → Gives {s = s} q mid r rest → Gives {s = s} p ws r rest
 led p q ws mid rest (Ok x) a g = λ ms. a ms (done x ms rest) (g ms)
 led p q ws mid rest (Err e) a g = λ ms. stop p q ms ms ws mid rest e (a ms) (g ms)
 
-pub led_marked : {s : Sort} (p q : Prod ruby s) (ms ns os : List Mark) (ws mid rest : List Word) (r : Result (Val s) Fault) → Leads p ms ws q ns mid → GivesMarked {s = s} q ns mid r os rest → GivesMarked {s = s} p ms ws r os rest
+pub led_marked : {s : Sort} (p q : Prod ruby s) (ms ns os : List Mark) (ws mid rest : List Word)
+    (r : Result (Val s) Fault) → Leads p ms ws q ns mid → GivesMarked {s = s} q ns mid r os rest →
+    GivesMarked {s = s} p ms ws r os rest
 led_marked p q ms ns os ws mid rest (Ok x) a g = a (done x os rest) g
 led_marked p q ms ns os ws mid rest (Err e) a g = stop p q ms ns ws mid rest e a g

@@ -14,12 +14,14 @@ use Rattle.ruby_parse_steps.specs.Gives.{Comes, Stops}
 use Rattle.ruby_parse_marks.specs.Views.{Refused}
 
 -- What a function returned, with the marks met so far and the words that are then left, is what the production reads.
-abbrev pub GivesMarked : {s : Sort} → Prod ruby s → List Mark → List Word → Result (Val s) Fault → List Mark → List Word → Type 0
+abbrev pub GivesMarked : {s : Sort} → Prod ruby s → List Mark → List Word → Result (Val s) Fault → List Mark →
+    List Word → Type 0
 GivesMarked {s} p ms ws (Ok x) ns rest = Comes p ms ws (done x ns rest)
 GivesMarked {s} p ms ws (Err e) ns rest = Stops p ms ws e rest
 
 -- the same of a rule
-abbrev pub GivesMarkedRule : {s : Sort} → Rule s → List Mark → List Word → Result (Val s) Fault → List Mark → List Word → Type 0
+abbrev pub GivesMarkedRule : {s : Sort} → Rule s → List Mark → List Word → Result (Val s) Fault → List Mark →
+    List Word → Type 0
 GivesMarkedRule {s} rule ms ws r ns rest = GivesMarked (only rule) ms ws r ns rest
 
 -- What was returned is what a whole file reads.
@@ -31,8 +33,10 @@ GivesFile ws (Err e) rest = Stops (only (file most_levels false)) [] ws e rest
 abbrev pub Leads : {s : Sort} → Prod ruby s → List Mark → List Word → Prod ruby s → List Mark → List Word → Type 0
 Leads {s} p ms ws q ns rest = (o : Outcome ruby s) → Comes q ns rest o → Comes p ms ws o
 
--- With what was returned, the production goes on as another one, behind the marks met so far and from the words that are left.
-abbrev pub GoesOn : {s : Sort} {A : Type 0} → Prod ruby s → (A → Prod ruby s) → List Mark → List Word → Result A Fault → List Mark → List Word → Type 0
+-- With what was returned, the production goes on as another one, behind the marks met so far and from the words that
+-- are left.
+abbrev pub GoesOn : {s : Sort} {A : Type 0} → Prod ruby s → (A → Prod ruby s) → List Mark → List Word →
+    Result A Fault → List Mark → List Word → Type 0
 GoesOn p next ms ws (Ok x) ns rest = Leads p ms ws (next x) ns rest
 GoesOn p next ms ws (Err e) ns rest = Stops p ms ws e rest
 

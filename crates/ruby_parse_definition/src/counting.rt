@@ -5,8 +5,8 @@ ghost use Rattle.ruby_parse_marks.specs.Views.{act_view};
 ghost use Rattle.ruby_parse_definition.specs.Answers.{Counted};
 
 use lists::Copying;
-use ruby_parse_marks::{Act, Mark, Marks};
 use ruby_parse_cursor::Fault;
+use ruby_parse_marks::{Act, Mark, Marks};
 use ruby_types::CPath;
 
 /// Counts what is done to a path at this place, if it doesn't clash.

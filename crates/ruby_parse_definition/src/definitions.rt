@@ -11,9 +11,9 @@ use crate::headers;
 use crate::members::other;
 use crate::place::Place;
 use case_table::cases;
-use ruby_parse_marks::Marks;
 use ruby_parse_cursor::signs::LINE;
 use ruby_parse_cursor::{Fault, Reader};
+use ruby_parse_marks::Marks;
 use ruby_parse_steps::opened;
 use ruby_types::{Def, Defs};
 use ruby_words::{CLASS, END, MODULE};
@@ -25,7 +25,8 @@ pub fn definitions(
     marks: &mut Marks,
     reader: &mut Reader<'_>,
 ) -> Result<Defs, Fault>
-    ensures reads { GivesMarkedRule (rules.definitions (body_view place.entry) []) marks.old reader.old result marks.new reader.new }
+    ensures reads { GivesMarkedRule (rules.definitions (body_view place.entry) []) marks.old reader.old result
+        marks.new reader.new }
     ensures shorter { length reader.new ≤ length reader.old }
 {
     let mut defs = Defs::new(place.alloc);
@@ -41,7 +42,8 @@ pub fn definitions(
 
 #[cycle(definition)]
 fn definition(place: Place<'_>, marks: &mut Marks, reader: &mut Reader<'_>) -> Result<Def, Fault>
-    ensures reads { GivesMarkedRule (rules.definition (body_view place.entry)) marks.old reader.old result marks.new reader.new }
+    ensures reads { GivesMarkedRule (rules.definition (body_view place.entry)) marks.old reader.old result marks.new
+        reader.new }
     ensures shorter { length reader.new ≤ length reader.old }
 {
     cases!(reader.code();
@@ -76,7 +78,8 @@ fn module(
     marks: &mut Marks,
     reader: &mut Reader<'_>,
 ) -> Result<Def, Fault>
-    ensures reads { GivesMarked (spec.module_from (body_view place.entry) levels) marks.old reader.old result marks.new reader.new }
+    ensures reads { GivesMarked (spec.module_from (body_view place.entry) levels) marks.old reader.old result
+        marks.new reader.new }
     ensures shorter { length reader.new ≤ length reader.old }
 {
     let opened = headers::module(place, marks, reader)?;
@@ -100,7 +103,8 @@ fn class(
     marks: &mut Marks,
     reader: &mut Reader<'_>,
 ) -> Result<Def, Fault>
-    ensures reads { GivesMarked (spec.class_from (body_view place.entry) levels) marks.old reader.old result marks.new reader.new }
+    ensures reads { GivesMarked (spec.class_from (body_view place.entry) levels) marks.old reader.old result
+        marks.new reader.new }
     ensures shorter { length reader.new ≤ length reader.old }
 {
     let (opened, parent) = headers::class(place, marks, reader)?;

@@ -5,9 +5,9 @@ ghost use Rattle.ruby_parse_definition.specs.Answers.{GivesFile, GivesFileFrom};
 
 use crate::definitions::definitions;
 use crate::place::Place;
-use ruby_parse_marks::Marks;
 use ruby_parse_cursor::signs::LINE;
 use ruby_parse_cursor::{Fault, Reader};
+use ruby_parse_marks::Marks;
 use ruby_parse_steps::LEVELS;
 use ruby_types::{CPath, FileTree};
 use std::alloc::Global;

@@ -10,9 +10,9 @@ ghost use Rattle.ruby_parse_definition.specs.Places.{body_view};
 use crate::counting::count;
 use crate::paths::allowed_rest;
 use crate::place::Place;
-use ruby_parse_marks::{Act, Marks};
 use ruby_parse_cursor::signs::{CONST, LESS, LINE};
 use ruby_parse_cursor::{Fault, Reader};
+use ruby_parse_marks::{Act, Marks};
 use ruby_parse_steps::{constant, longer};
 use ruby_types::{CPath, ConstRef};
 use ruby_words::{CLASS, MODULE};
@@ -83,7 +83,8 @@ fn parent(
     marks: &mut Marks,
     reader: &mut Reader<'_>,
 ) -> Result<Option<ConstRef>, Fault>
-    ensures reads { GivesMarkedRule (rules.parent place.entry.path.now at) marks.old reader.old result marks.new reader.new }
+    ensures reads { GivesMarkedRule (rules.parent place.entry.path.now at) marks.old reader.old result marks.new
+        reader.new }
     ensures shorter { length reader.new ≤ length reader.old }
 {
     if reader.sees(LESS) {

@@ -15,16 +15,17 @@ use crate::methods::method;
 use crate::place::Place;
 use case_table::cases;
 use lists::Copying;
-use ruby_parse_marks::{Act, Marks};
 use ruby_parse_cursor::signs::{ASSIGN, COMMA, CONST, SYM};
 use ruby_parse_cursor::{Fault, Reader, behind_sign};
+use ruby_parse_marks::{Act, Marks};
 use ruby_parse_steps::{constant, longer, opened};
 use ruby_types::{Def, Text, TextList};
 use ruby_words::{ATTR_READER, DEF, INCLUDE};
 
 /// A constant, `=` and its value. It counts behind the `=`.
 fn assigned(place: Place<'_>, marks: &mut Marks, reader: &mut Reader<'_>) -> Result<Def, Fault>
-    ensures reads { GivesMarked (spec.assign_from (body_view place.entry)) marks.old reader.old result marks.new reader.new }
+    ensures reads { GivesMarked (spec.assign_from (body_view place.entry)) marks.old reader.old result marks.new
+        reader.new }
     ensures shorter { length reader.new ≤ length reader.old }
 {
     let word = reader.taken(CONST)?;
@@ -67,7 +68,8 @@ fn more_readers(
     marks: &mut Marks,
     reader: &mut Reader<'_>,
 ) -> Result<TextList, Fault>
-    ensures reads { GivesMarkedRule (rules.more_readers place.entry.path.now first) marks.old reader.old result marks.new reader.new }
+    ensures reads { GivesMarkedRule (rules.more_readers place.entry.path.now first) marks.old reader.old result
+        marks.new reader.new }
     ensures shorter { length reader.new ≤ length reader.old }
 {
     let mut names = first;
@@ -80,7 +82,8 @@ fn more_readers(
 
 /// `attr_reader` and its symbols.
 fn readers(place: Place<'_>, marks: &mut Marks, reader: &mut Reader<'_>) -> Result<Def, Fault>
-    ensures reads { GivesMarked (spec.readers_from (body_view place.entry)) marks.old reader.old result marks.new reader.new }
+    ensures reads { GivesMarked (spec.readers_from (body_view place.entry)) marks.old reader.old result marks.new
+        reader.new }
     ensures shorter { length reader.new ≤ length reader.old }
 {
     reader.take(ATTR_READER)?;
@@ -95,7 +98,8 @@ fn member(place: Place<'_>, marks: &mut Marks, reader: &mut Reader<'_>) -> Resul
     requires no_const { next_is is_const (head reader.old) ≡ false }
     requires no_module { next_is is_module (head reader.old) ≡ false }
     requires no_class { next_is is_class (head reader.old) ≡ false }
-    ensures reads { GivesMarkedRule (rules.definition (body_view place.entry)) marks.old reader.old result marks.new reader.new }
+    ensures reads { GivesMarkedRule (rules.definition (body_view place.entry)) marks.old reader.old result marks.new
+        reader.new }
     ensures shorter { length reader.new ≤ length reader.old }
 {
     cases!(reader.code();
@@ -113,7 +117,8 @@ fn member(place: Place<'_>, marks: &mut Marks, reader: &mut Reader<'_>) -> Resul
 pub fn other(place: Place<'_>, marks: &mut Marks, reader: &mut Reader<'_>) -> Result<Def, Fault>
     requires no_module { next_is is_module (head reader.old) ≡ false }
     requires no_class { next_is is_class (head reader.old) ≡ false }
-    ensures reads { GivesMarkedRule (rules.definition (body_view place.entry)) marks.old reader.old result marks.new reader.new }
+    ensures reads { GivesMarkedRule (rules.definition (body_view place.entry)) marks.old reader.old result marks.new
+        reader.new }
     ensures shorter { length reader.new ≤ length reader.old }
 {
     if reader.sees(CONST) {

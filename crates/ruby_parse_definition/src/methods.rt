@@ -14,9 +14,9 @@ use crate::headings::{Heading, method_heading};
 use crate::parameters::{Parameters, all_parameters};
 use crate::place::Place;
 use lists::Copying;
-use ruby_parse_marks::{Act, Mark, Marks};
 use ruby_parse_cursor::signs::{CLOSE_PAREN, LINE, OPEN_PAREN};
 use ruby_parse_cursor::{Fault, Reader};
+use ruby_parse_marks::{Act, Mark, Marks};
 use ruby_parse_statement::{Body, statements};
 use ruby_parse_steps::opened;
 use ruby_types::{Def, Stmts};
@@ -37,7 +37,8 @@ fn enclosed<'a>(
     marks: &mut Marks,
     reader: &mut Reader<'a>,
 ) -> Result<Parameters<'a>, Fault>
-    ensures reads { GivesMarked (spec.parameters_from (mark_view mark) 0) marks.old reader.old result marks.new reader.new }
+    ensures reads { GivesMarked (spec.parameters_from (mark_view mark) 0) marks.old reader.old result marks.new
+        reader.new }
     ensures shorter { length reader.new ≤ length reader.old }
 {
     reader.take(OPEN_PAREN)?;
@@ -56,7 +57,8 @@ fn parameter_list<'a>(
     marks: &mut Marks,
     reader: &mut Reader<'a>,
 ) -> Result<Parameters<'a>, Fault>
-    ensures reads { GivesMarkedRule (rules.parameter_list levels (mark_view mark)) marks.old reader.old result marks.new reader.new }
+    ensures reads { GivesMarkedRule (rules.parameter_list levels (mark_view mark)) marks.old reader.old result
+        marks.new reader.new }
     ensures shorter { length reader.new ≤ length reader.old }
 {
     if reader.sees(OPEN_PAREN) {
@@ -71,7 +73,8 @@ fn parameter_list<'a>(
 
 /// What a method of this name counts as.
 fn mark_of(place: Place<'_>, heading: &Heading) -> Result<Mark, AllocError>
-    ensures { IfOk result (λ mark. mark_view mark ≡ spec.counts place.entry.path.now (defines heading.now.single heading.now.name) heading.now.at) }
+    ensures { IfOk result (λ mark. mark_view mark ≡ spec.counts place.entry.path.now
+        (defines heading.now.single heading.now.name) heading.now.at) }
 {
     Ok(Mark {
         path: place.path.copy()?,
@@ -132,7 +135,8 @@ pub fn method<'a>(
     marks: &mut Marks,
     reader: &mut Reader<'a>,
 ) -> Result<Def, Fault>
-    ensures reads { GivesMarked (spec.method_from (body_view place.entry) levels) marks.old reader.old result marks.new reader.new }
+    ensures reads { GivesMarked (spec.method_from (body_view place.entry) levels) marks.old reader.old result
+        marks.new reader.new }
     ensures shorter { length reader.new ≤ length reader.old }
 {
     let signature = method_signature(place, levels, marks, reader)?;

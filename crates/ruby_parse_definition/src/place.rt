@@ -9,9 +9,9 @@ ghost use Rattle.ruby_grammar.specs.Statements.{scope};
 ghost use Rattle.ruby_parse_steps.specs.Gives.{GivesRule};
 
 use lists::Copying;
-use ruby_parse_expression::expression;
 use ruby_parse_cursor::signs::CONST;
 use ruby_parse_cursor::{Fault, Locals, Reader};
+use ruby_parse_expression::expression;
 use ruby_parse_steps::Scope;
 use ruby_types::{CPath, Expr};
 use ruby_words::{ATTR_READER, CLASS, DEF, INCLUDE, MODULE};

@@ -4,7 +4,8 @@ use Rattle.descent.specs.Reading.{head}
 use Rattle.ruby_grammar.specs.Words.{Word}
 use Rattle.ruby_grammar.specs.Choices.{next_is}
 
-pub dropped : (test : Word → Bool) (ws mid : List Word) → next_is test (head ws) ≡ true → mid ≡ drop 1 ws → length mid < length ws
+pub dropped : (test : Word → Bool) (ws mid : List Word) → next_is test (head ws) ≡ true → mid ≡ drop 1 ws →
+    length mid < length ws
 dropped test [] mid p d = absurd (wrong p)
   where
     wrong : false ≡ true → ⊥

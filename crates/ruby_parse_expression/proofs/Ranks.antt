@@ -1,6 +1,7 @@
 -- How far the functions of expressions are from each other where they read the same words.
 use Rattle.std.proofs.Common.{◌≡◌, ℕ, ◌<◌, lit<, refl}
-use Rattle.ruby_grammar.specs.Signs.{Level, units, products, sums, comparisons, equalities, conjunctions, disjunctions, tighter}
+use Rattle.ruby_grammar.specs.Signs.{Level, units, products, sums, comparisons, equalities, conjunctions, disjunctions}
+use Rattle.ruby_grammar.specs.Signs.{tighter}
 
 abbrev pub rank : Level → ℕ
 rank units = 0

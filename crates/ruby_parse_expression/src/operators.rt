@@ -37,7 +37,8 @@ pub fn expression<'a>(scope: Scope<'_, 'a>, reader: &mut Reader<'a>) -> Result<E
 /// Operands with operators of this level between them.
 #[cycle(expression)]
 fn operators<'a>(scope: Scope<'_, 'a>, level: Level, reader: &mut Reader<'a>) -> Result<Expr, Fault>
-    ensures reads { GivesRule (rules.operators (level_view level) (scope_view scope.entry)) reader.old result reader.new }
+    ensures reads { GivesRule (rules.operators (level_view level) (scope_view scope.entry)) reader.old result
+        reader.new }
     ensures shorter { length reader.new ≤ length reader.old }
     ensures taken { OnOk result (length reader.new < length reader.old) }
 {

@@ -16,6 +16,11 @@ latest_more (y ∷ ys) x = ap (λ l. l ++ mark_view y ∷ []) (latest_more ys x)
 
 -- a mark more, in the list and in the set
 pub insert_kept : (xs ys : List Held) (x : Held) (key : Vec ℕ) (s n : sorted.BTreeSet (Vec ℕ)) →
-    ys ≡ xs ++ x ∷ [] → key.items ≡ mark_key (mark_view x) → sorted.UpdatesBy key_order (λ k. slice_cmp nat_cmp key.items k.items) s n true → AreKept s (latest_first xs) → AreKept n (latest_first ys)
+    ys ≡ xs ++ x ∷ [] → key.items ≡ mark_key (mark_view x) →
+    sorted.UpdatesBy key_order (λ k. slice_cmp nat_cmp key.items k.items) s n true →
+    AreKept s (latest_first xs) → AreKept n (latest_first ys)
 insert_kept xs ys x key s n e k u are =
-    subst (λ l. AreKept n (latest_first l)) (sym e) (subst (λ l. AreKept n l) (sym (latest_more xs x)) (subst (λ b. IsKnown n (b ∷ keys_of (latest_first xs))) k (known_more s n key.items u (keys_of (latest_first xs)) are)))
+    subst (λ l. AreKept n (latest_first l)) (sym e)
+    (subst (λ l. AreKept n l) (sym (latest_more xs x))
+    (subst (λ b. IsKnown n (b ∷ keys_of (latest_first xs))) k
+    (known_more s n key.items u (keys_of (latest_first xs)) are)))

@@ -90,7 +90,8 @@ impl Marks {
 
     /// Whether one of these acts, which have no name, was done to this path.
     fn has_either(&self, kind: u16, other: u16, path: &[Text]) -> Result<bool, AllocError>
-        ensures { IfOk result (λ found. found ≡ (has (keys_of self.now) (key kind [] path.now) || has (keys_of self.now) (key other [] path.now))) }
+        ensures { IfOk result (λ found. found
+            ≡ (has (keys_of self.now) (key kind [] path.now) || has (keys_of self.now) (key other [] path.now))) }
     {
         if self.has(kind, path)? {
             Ok(true)
@@ -101,7 +102,9 @@ impl Marks {
 
     /// Whether the path was assigned or opened.
     fn has_path(&self, path: &[Text]) -> Result<bool, AllocError>
-        ensures { IfOk result (λ found. found ≡ (has (keys_of self.now) (key 0 [] path.now) || (has (keys_of self.now) (key 1 [] path.now) || has (keys_of self.now) (key 2 [] path.now)))) }
+        ensures { IfOk result (λ found. found
+            ≡ (has (keys_of self.now) (key 0 [] path.now) ||
+            (has (keys_of self.now) (key 1 [] path.now) || has (keys_of self.now) (key 2 [] path.now)))) }
     {
         if self.has(ASSIGNS, path)? {
             Ok(true)

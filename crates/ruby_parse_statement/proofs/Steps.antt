@@ -1,5 +1,6 @@
 -- Steps of the reading of one statement.
-use Rattle.std.proofs.Common.{◌≡◌, ℕ, Bool, true, false, ◌==◌, ◌≤◌, ◌<◌, ◌-◌, List, [], ◌∷◌, drop, length, refl, sym, ap, ◌∙◌, subst, arith, Result, Ok, Err}
+use Rattle.std.proofs.Common.{◌≡◌, ℕ, Bool, true, false, ◌==◌, ◌≤◌, ◌<◌, ◌-◌, List, [], ◌∷◌, drop, length, refl, sym}
+use Rattle.std.proofs.Common.{ap, ◌∙◌, subst, arith, Result, Ok, Err}
 use Rattle.std.proofs.lemmas.Bool.Decides.{nat_tests}
 use Rattle.std.proofs.lemmas.List.{length-drop}
 use Rattle.ruby_types.specs.declared.tree.Expr.{Expr}
@@ -15,36 +16,56 @@ use Rattle.ruby_parse_steps.specs.Gives.{Gives, GivesRule}
 use Rattle.ruby_parse_steps.proofs.Descent.{g_give, g_chosen, g_word, g_skip, g_lacks, g_then, g_fails, g_memory}
 
 -- a word that passes, whatever it is
-pub skips : (test : Word → Bool) (p : Prod ruby a_statement) (ws mid rest : List Word) (r : Result Known Fault) → next_is test (head ws) ≡ true → mid ≡ drop 1 ws → Gives p mid r rest → Gives {s = a_statement} (token test λ _. p) ws r rest
+pub skips : (test : Word → Bool) (p : Prod ruby a_statement) (ws mid rest : List Word) (r : Result Known Fault) →
+    next_is test (head ws) ≡ true → mid ≡ drop 1 ws → Gives p mid r rest →
+    Gives {s = a_statement} (token test λ _. p) ws r rest
 skips test p ws mid rest r t d g = g_skip {s = a_statement} test (λ _. p) ws mid rest r t d (λ _. g)
 
-pub passes : (test : Word → Bool) (next : Word → Prod ruby a_statement) (w : Word) (ws mid rest : List Word) (r : Result Known Fault) → ws ≡ w ∷ mid → test w ≡ true → Gives {s = a_statement} (next w) mid r rest → Gives {s = a_statement} (token test next) ws r rest
+pub passes : (test : Word → Bool) (next : Word → Prod ruby a_statement) (w : Word) (ws mid rest : List Word)
+    (r : Result Known Fault) → ws ≡ w ∷ mid → test w ≡ true → Gives {s = a_statement} (next w) mid r rest →
+    Gives {s = a_statement} (token test next) ws r rest
 passes test next w ws mid rest r e t g = g_word {s = a_statement} test next w ws mid rest r e t g
 
-pub fails : {s : Sort} (p : Prod ruby s) (ws rest : List Word) (e : Fault) → rest ≡ ws → e ≡ f.Unexpected → Gives {s = s} p ws (Err f.Unexpected) ws → Gives {s = s} p ws (Err e) rest
-fails {s} p ws rest e d u g = subst (λ x. Gives {s = s} p ws (Err x) rest) (sym u) (subst (λ l. Gives {s = s} p ws (Err f.Unexpected) l) (sym d) g)
+pub fails : {s : Sort} (p : Prod ruby s) (ws rest : List Word) (e : Fault) → rest ≡ ws → e ≡ f.Unexpected →
+    Gives {s = s} p ws (Err f.Unexpected) ws → Gives {s = s} p ws (Err e) rest
+fails {s} p ws rest e d u g = subst (λ x. Gives {s = s} p ws (Err x) rest) (sym u)
+    (subst (λ l. Gives {s = s} p ws (Err f.Unexpected) l) (sym d) g)
 
-pub lacks : (test : Word → Bool) (next : Word → Prod ruby a_statement) (ws rest : List Word) (e : Fault) → rest ≡ ws → next_is test (head ws) ≡ false → e ≡ f.Unexpected → Gives {s = a_statement} (token test next) ws (Err e) rest
-lacks test next ws rest e d t u = fails {s = a_statement} (token test next) ws rest e d u (g_lacks {s = a_statement} test next ws t)
+pub lacks : (test : Word → Bool) (next : Word → Prod ruby a_statement) (ws rest : List Word) (e : Fault) →
+    rest ≡ ws → next_is test (head ws) ≡ false → e ≡ f.Unexpected →
+    Gives {s = a_statement} (token test next) ws (Err e) rest
+lacks test next ws rest e d t u = fails {s = a_statement} (token test next) ws rest e d u
+    (g_lacks {s = a_statement} test next ws t)
 
 -- an expression
-pub value : (here : Scope) (next : Expr → Known) (x : Expr) (ws rest : List Word) → GivesRule (expression here) ws (Ok x) rest → Gives {s = a_statement} (call (expression here) λ x. give (next x)) ws (Ok (next x)) rest
-value here next x ws rest g = g_then {s = a_statement} (expression here) (λ x. give (next x)) x ws rest rest (Ok (next x)) g (g_give {s = a_statement} (next x) rest)
+pub value : (here : Scope) (next : Expr → Known) (x : Expr) (ws rest : List Word) →
+    GivesRule (expression here) ws (Ok x) rest →
+    Gives {s = a_statement} (call (expression here) λ x. give (next x)) ws (Ok (next x)) rest
+value here next x ws rest g = g_then {s = a_statement} (expression here) (λ x. give (next x)) x ws rest rest
+    (Ok (next x)) g (g_give {s = a_statement} (next x) rest)
 
-pub value_then : (here : Scope) (next : Expr → Prod ruby a_statement) (x : Expr) (ws mid rest : List Word) (r : Result Known Fault) → GivesRule (expression here) ws (Ok x) mid → Gives {s = a_statement} (next x) mid r rest → Gives {s = a_statement} (call (expression here) next) ws r rest
+pub value_then : (here : Scope) (next : Expr → Prod ruby a_statement) (x : Expr) (ws mid rest : List Word)
+    (r : Result Known Fault) → GivesRule (expression here) ws (Ok x) mid →
+    Gives {s = a_statement} (next x) mid r rest → Gives {s = a_statement} (call (expression here) next) ws r rest
 value_then here next x ws mid rest r g h = g_then {s = a_statement} (expression here) next x ws mid rest r g h
 
-pub value_fails : (here : Scope) (next : Expr → Prod ruby a_statement) (e : Fault) (ws rest : List Word) → GivesRule (expression here) ws (Err e) rest → Gives {s = a_statement} (call (expression here) next) ws (Err e) rest
+pub value_fails : (here : Scope) (next : Expr → Prod ruby a_statement) (e : Fault) (ws rest : List Word) →
+    GivesRule (expression here) ws (Err e) rest → Gives {s = a_statement} (call (expression here) next) ws (Err e) rest
 value_fails here next e ws rest g = g_fails {s = a_statement} (expression here) next ws rest e g
 
 -- what another rule says
-pub rule_then : {v : Sort} (rule : Rule v) (next : Val v → Prod ruby a_statement) (y : Val v) (ws mid rest : List Word) (r : Result Known Fault) → GivesRule {s = v} rule ws (Ok y) mid → Gives {s = a_statement} (next y) mid r rest → Gives {s = a_statement} (call rule next) ws r rest
+pub rule_then : {v : Sort} (rule : Rule v) (next : Val v → Prod ruby a_statement) (y : Val v)
+    (ws mid rest : List Word) (r : Result Known Fault) → GivesRule {s = v} rule ws (Ok y) mid →
+    Gives {s = a_statement} (next y) mid r rest → Gives {s = a_statement} (call rule next) ws r rest
 rule_then {v} rule next y ws mid rest r g h = g_then {s = a_statement} {v = v} rule next y ws mid rest r g h
 
-pub rule_fails : {v : Sort} (rule : Rule v) (next : Val v → Prod ruby a_statement) (e : Fault) (ws rest : List Word) → GivesRule {s = v} rule ws (Err e) rest → Gives {s = a_statement} (call rule next) ws (Err e) rest
+pub rule_fails : {v : Sort} (rule : Rule v) (next : Val v → Prod ruby a_statement) (e : Fault)
+    (ws rest : List Word) → GivesRule {s = v} rule ws (Err e) rest →
+    Gives {s = a_statement} (call rule next) ws (Err e) rest
 rule_fails {v} rule next e ws rest g = g_fails {s = a_statement} {v = v} rule next ws rest e g
 
-pub picked : (rule : Rule a_statement) (p : Prod ruby a_statement) (ws rest : List Word) (r : Result Known Fault) → choose ruby_choices rule ws ≡ take p → Gives p ws r rest → GivesRule rule ws r rest
+pub picked : (rule : Rule a_statement) (p : Prod ruby a_statement) (ws rest : List Word) (r : Result Known Fault) →
+    choose ruby_choices rule ws ≡ take p → Gives p ws r rest → GivesRule rule ws r rest
 picked rule p ws rest r c g = g_chosen {s = a_statement} rule p ws rest r c g
 
 -- want of memory is free
@@ -55,14 +76,17 @@ unmade p ws rest e u = subst (λ x. Gives p ws (Err x) rest) (sym u) (g_memory {
 is_same : (m n : ℕ) → (m == n) ≡ true → m ≡ n
 is_same m n h = grind (arith, nat_tests)
 
-pub apart : (m n : ℕ) (ws : List Word) → (m == n) ≡ false → next_is (is m) (head ws) ≡ true → next_is (is n) (head ws) ≡ false
+pub apart : (m n : ℕ) (ws : List Word) → (m == n) ≡ false → next_is (is m) (head ws) ≡ true →
+    next_is (is n) (head ws) ≡ false
 apart m n [] d p = refl
 apart m n (w ∷ ws) d p = subst (λ k. (k == n) ≡ false) (sym (is_same (sign w) m p)) d
 
 -- ---- lengths
-pub skip_falls : (test : Word → Bool) (ws mid : List Word) → next_is test (head ws) ≡ true → mid ≡ drop 1 ws → length mid < length ws
+pub skip_falls : (test : Word → Bool) (ws mid : List Word) → next_is test (head ws) ≡ true → mid ≡ drop 1 ws →
+    length mid < length ws
 skip_falls test [] mid t d = absurd (cc)
-skip_falls test (w ∷ ws) mid t d = let a : length mid ≡ length (w ∷ ws) - 1 = ap length d ∙ length-drop 1 (w ∷ ws) in omega (arith, a)
+skip_falls test (w ∷ ws) mid t d = let a : length mid ≡ length (w ∷ ws) - 1 = ap length d ∙ length-drop 1 (w ∷ ws) in
+    omega (arith, a)
 
 pub drop_shorter : (ws mid : List Word) → mid ≡ drop 1 ws → length mid ≤ length ws
 drop_shorter ws mid d = let a : length mid ≡ length ws - 1 = ap length d ∙ length-drop 1 ws in omega (arith, a)

@@ -27,5 +27,7 @@ conditioned s (Some x) = stmt.If ((x, s ∷ []) ∷ []) [] true
 
 -- What was returned is the condition behind any statement.
 abbrev pub GivesCondition : ℕ → List Name → List Word → Result (Option Expr) Fault → List Word → Type 0
-GivesCondition levels names ws (Ok o) rest = (s : Stmt) → GivesRule (condition_behind levels (known s names)) ws (Ok (known (conditioned s o) names)) rest
-GivesCondition levels names ws (Err e) rest = (s : Stmt) → GivesRule (condition_behind levels (known s names)) ws (Err e) rest
+GivesCondition levels names ws (Ok o) rest = (s : Stmt) →
+    GivesRule (condition_behind levels (known s names)) ws (Ok (known (conditioned s o) names)) rest
+GivesCondition levels names ws (Err e) rest = (s : Stmt) →
+    GivesRule (condition_behind levels (known s names)) ws (Err e) rest

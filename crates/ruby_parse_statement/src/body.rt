@@ -6,9 +6,9 @@ ghost use Rattle.ruby_grammar.specs.Statements.{scope};
 ghost use Rattle.ruby_parse_steps.specs.Gives.{GivesRule};
 ghost use Rattle.ruby_parse_steps.specs.Scopes.{scope_view};
 
-use ruby_parse_expression::expression;
 use ruby_parse_cursor::signs::starts_expression;
 use ruby_parse_cursor::{Fault, Locals, Reader};
+use ruby_parse_expression::expression;
 use ruby_parse_steps::{Scope, opened};
 use ruby_types::Expr;
 use std::alloc::Global;
@@ -53,7 +53,8 @@ impl Body {
         locals: &Locals<'a>,
         reader: &mut Reader<'a>,
     ) -> Result<Option<Expr>, Fault>
-        ensures reads { GivesRule (rules.perhaps_expression (scope self.levels locals.now)) reader.old result reader.new }
+        ensures reads { GivesRule (rules.perhaps_expression (scope self.levels locals.now)) reader.old result
+            reader.new }
         ensures shorter { length reader.new ≤ length reader.old }
     {
         if starts_expression(reader.sign()) {

@@ -70,7 +70,8 @@ pub fn plain<'a>(
     reader: &mut Reader<'a>,
 ) -> Result<Stmt, Fault>
     requires { (next_is is_if (head reader.old) || next_is is_unless (head reader.old)) ≡ false }
-    ensures reads { GivesRule (rules.statement (around_view body locals.old)) reader.old (known_as locals.new result) reader.new }
+    ensures reads { GivesRule (rules.statement (around_view body locals.old)) reader.old
+        (known_as locals.new result) reader.new }
     ensures shorter { length reader.new ≤ length reader.old }
 {
     let statement = simple(body, locals, reader)?;

@@ -37,7 +37,8 @@ fn raised<'a>(body: Body, locals: &Locals<'a>, reader: &mut Reader<'a>) -> Resul
 
 /// An expression alone.
 fn evaluated<'a>(body: Body, locals: &Locals<'a>, reader: &mut Reader<'a>) -> Result<Stmt, Fault>
-    ensures reads { Gives (evaluating (around_view body locals.now)) reader.old (known_as locals.now result) reader.new }
+    ensures reads { Gives (evaluating (around_view body locals.now)) reader.old
+        (known_as locals.now result) reader.new }
     ensures shorter { length reader.new ≤ length reader.old }
 {
     Ok(Stmt::Expr(body.expression(locals, reader)?))
@@ -83,7 +84,8 @@ fn set<'a>(body: Body, locals: &mut Locals<'a>, reader: &mut Reader<'a>) -> Resu
 
 /// `@name = value`
 fn set_ivar<'a>(body: Body, locals: &Locals<'a>, reader: &mut Reader<'a>) -> Result<Stmt, Fault>
-    ensures reads { Gives (setting_ivar (around_view body locals.now)) reader.old (known_as locals.now result) reader.new }
+    ensures reads { Gives (setting_ivar (around_view body locals.now)) reader.old
+        (known_as locals.now result) reader.new }
     ensures shorter { length reader.new ≤ length reader.old }
 {
     let word = reader.taken(IVAR)?;
@@ -115,7 +117,8 @@ fn set_or_evaluated<'a>(
 ) -> Result<Stmt, Fault>
     requires no_return { next_is is_return (head reader.old) ≡ false }
     requires no_raise { next_is is_raise (head reader.old) ≡ false }
-    ensures reads { GivesRule (rules.simple_statement (around_view body locals.old)) reader.old (known_as locals.new result) reader.new }
+    ensures reads { GivesRule (rules.simple_statement (around_view body locals.old)) reader.old
+        (known_as locals.new result) reader.new }
     ensures shorter { length reader.new ≤ length reader.old }
 {
     if sets(reader) {
@@ -136,7 +139,8 @@ pub fn simple<'a>(
     locals: &mut Locals<'a>,
     reader: &mut Reader<'a>,
 ) -> Result<Stmt, Fault>
-    ensures reads { GivesRule (rules.simple_statement (around_view body locals.old)) reader.old (known_as locals.new result) reader.new }
+    ensures reads { GivesRule (rules.simple_statement (around_view body locals.old)) reader.old
+        (known_as locals.new result) reader.new }
     ensures shorter { length reader.new ≤ length reader.old }
 {
     cases!(reader.code();

@@ -25,7 +25,8 @@ pub fn statements<'a>(
     locals: &mut Locals<'a>,
     reader: &mut Reader<'a>,
 ) -> Result<Block, Fault>
-    ensures reads { GivesRule (rules.statements (around_view body locals.old) []) reader.old (block_as locals.new result) reader.new }
+    ensures reads { GivesRule (rules.statements (around_view body locals.old) []) reader.old
+        (block_as locals.new result) reader.new }
     ensures shorter { length reader.new ≤ length reader.old }
 {
     let mut statements = Stmts::new(body.alloc);
@@ -51,7 +52,8 @@ fn statement<'a>(
     locals: &mut Locals<'a>,
     reader: &mut Reader<'a>,
 ) -> Result<Stmt, Fault>
-    ensures reads { GivesRule (rules.statement (around_view body locals.old)) reader.old (known_as locals.new result) reader.new }
+    ensures reads { GivesRule (rules.statement (around_view body locals.old)) reader.old
+        (known_as locals.new result) reader.new }
     ensures shorter { length reader.new ≤ length reader.old }
 {
     if begins_block(reader) {
@@ -72,7 +74,8 @@ fn branches<'a>(
     locals: &mut Locals<'a>,
     reader: &mut Reader<'a>,
 ) -> Result<Stmt, Fault>
-    ensures reads { Gives (arm_then (around_view body locals.old) is_unless []) reader.old (known_as locals.new result) reader.new }
+    ensures reads { Gives (arm_then (around_view body locals.old) is_unless []) reader.old
+        (known_as locals.new result) reader.new }
     ensures shorter { length reader.new ≤ length reader.old }
 {
     let mut list = Arms::new(body.alloc);
@@ -102,7 +105,8 @@ fn arms<'a>(
     locals: &mut Locals<'a>,
     reader: &mut Reader<'a>,
 ) -> Result<bool, Fault>
-    ensures reads { GivesArms (around_view body locals.old) is_unless list.old reader.old result list.new locals.new reader.new }
+    ensures reads { GivesArms (around_view body locals.old) is_unless list.old reader.old result list.new locals.new
+        reader.new }
     ensures last { IfOk result (λ closed. (closed && (not is_unless && next_is is_elsif (head reader.new))) ≡ false) }
     ensures shorter { length reader.new ≤ length reader.old }
 {
@@ -123,7 +127,8 @@ fn arm<'a>(
     locals: &mut Locals<'a>,
     reader: &mut Reader<'a>,
 ) -> Result<bool, Fault>
-    ensures reads { GivesArms (around_view body locals.old) is_unless list.old reader.old result list.new locals.new reader.new }
+    ensures reads { GivesArms (around_view body locals.old) is_unless list.old reader.old result list.new locals.new
+        reader.new }
     ensures shorter { length reader.new ≤ length reader.old }
 {
     let test = test(body, is_unless, locals, reader)?;

@@ -18,24 +18,39 @@ starts_is [] = refl
 starts_is (w ∷ ws) = refl
 
 module _ (here : Scope) (xs : List Expr) where
-  members_chosen : (ws : List Word) (b : Bool) → expression_sign (head_sign ws) ≡ b → choose ruby_choices (members here xs) ws ≡ cond b (take (member_then here xs)) (take (give xs))
+  members_chosen : (ws : List Word) (b : Bool) → expression_sign (head_sign ws) ≡ b →
+      choose ruby_choices (members here xs) ws ≡ cond b (take (member_then here xs)) (take (give xs))
   members_chosen ws b e = ap (λ b. cond b (take (member_then here xs)) (take (give xs))) (starts_is ws ∙ e)
 
-  comma_chosen : (ws : List Word) (b : Bool) → next_is is_comma (head ws) ≡ b → choose ruby_choices (more_members here xs) ws ≡ cond b (take (token is_comma (λ _. only (members here xs)))) (take (give xs))
+  comma_chosen : (ws : List Word) (b : Bool) → next_is is_comma (head ws) ≡ b →
+      choose ruby_choices (more_members here xs) ws ≡ cond b (take (token is_comma (λ _. only (members here xs))))
+      (take (give xs))
   comma_chosen ws b e = ap (λ b. cond b (take (token is_comma (λ _. only (members here xs)))) (take (give xs))) e
 
-  pub member_reads : (x : Expr) (ws mid rest : List Word) (r : Result (List Expr) Fault) → expression_sign (head_sign ws) ≡ true →
-      GivesRule (expression here) ws (Ok x) mid → GivesRule (more_members here (xs ++ x ∷ [])) mid r rest → GivesRule (members here xs) ws r rest
-  member_reads x ws mid rest r p a g = g_chosen {s = some_expressions} (members here xs) (member_then here xs) ws rest r (members_chosen ws true p) (g_then {s = some_expressions} (expression here) _ x ws mid rest r a g)
+  pub member_reads : (x : Expr) (ws mid rest : List Word) (r : Result (List Expr) Fault) →
+      expression_sign (head_sign ws) ≡ true →
+      GivesRule (expression here) ws (Ok x) mid → GivesRule (more_members here (xs ++ x ∷ [])) mid r rest →
+      GivesRule (members here xs) ws r rest
+  member_reads x ws mid rest r p a g = g_chosen {s = some_expressions} (members here xs)
+      (member_then here xs) ws rest r (members_chosen ws true p)
+      (g_then {s = some_expressions} (expression here) _ x ws mid rest r a g)
 
-  pub member_breaks : (e : Fault) (ws rest : List Word) → expression_sign (head_sign ws) ≡ true → GivesRule (expression here) ws (Err e) rest → GivesRule (members here xs) ws (Err e) rest
-  member_breaks e ws rest p a = g_chosen {s = some_expressions} (members here xs) (member_then here xs) ws rest (Err e) (members_chosen ws true p) (g_fails {s = some_expressions} (expression here) _ ws rest e a)
+  pub member_breaks : (e : Fault) (ws rest : List Word) → expression_sign (head_sign ws) ≡ true →
+      GivesRule (expression here) ws (Err e) rest → GivesRule (members here xs) ws (Err e) rest
+  member_breaks e ws rest p a = g_chosen {s = some_expressions} (members here xs) (member_then here xs) ws rest
+      (Err e) (members_chosen ws true p) (g_fails {s = some_expressions} (expression here) _ ws rest e a)
 
-  pub members_end : (ws : List Word) → expression_sign (head_sign ws) ≡ false → GivesRule (members here xs) ws (Ok xs) ws
-  members_end ws p = g_chosen {s = some_expressions} (members here xs) (give xs) ws ws (Ok xs) (members_chosen ws false p) (g_give {s = some_expressions} xs ws)
+  pub members_end : (ws : List Word) → expression_sign (head_sign ws) ≡ false →
+      GivesRule (members here xs) ws (Ok xs) ws
+  members_end ws p = g_chosen {s = some_expressions} (members here xs) (give xs) ws ws (Ok xs)
+      (members_chosen ws false p) (g_give {s = some_expressions} xs ws)
 
-  pub comma_reads : (ws mid rest : List Word) (r : Result (List Expr) Fault) → next_is is_comma (head ws) ≡ true → mid ≡ drop 1 ws → GivesRule (members here xs) mid r rest → GivesRule (more_members here xs) ws r rest
-  comma_reads ws mid rest r p d g = g_chosen {s = some_expressions} (more_members here xs) (token is_comma (λ _. only (members here xs))) ws rest r (comma_chosen ws true p) (g_skip {s = some_expressions} is_comma _ ws mid rest r p d (λ _. g))
+  pub comma_reads : (ws mid rest : List Word) (r : Result (List Expr) Fault) → next_is is_comma (head ws) ≡ true →
+      mid ≡ drop 1 ws → GivesRule (members here xs) mid r rest → GivesRule (more_members here xs) ws r rest
+  comma_reads ws mid rest r p d g = g_chosen {s = some_expressions} (more_members here xs)
+      (token is_comma (λ _. only (members here xs))) ws rest r (comma_chosen ws true p)
+      (g_skip {s = some_expressions} is_comma _ ws mid rest r p d (λ _. g))
 
   pub no_comma : (ws : List Word) → next_is is_comma (head ws) ≡ false → GivesRule (more_members here xs) ws (Ok xs) ws
-  no_comma ws p = g_chosen {s = some_expressions} (more_members here xs) (give xs) ws ws (Ok xs) (comma_chosen ws false p) (g_give {s = some_expressions} xs ws)
+  no_comma ws p = g_chosen {s = some_expressions} (more_members here xs) (give xs) ws ws (Ok xs)
+      (comma_chosen ws false p) (g_give {s = some_expressions} xs ws)

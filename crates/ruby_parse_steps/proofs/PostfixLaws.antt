@@ -1,5 +1,6 @@
 -- How calls, indexes and arguments are read behind an expression.
-use Rattle.std.proofs.Common.{◌≡◌, ℕ, suc, true, false, cond, List, [], ◌∷◌, drop, refl, sym, ap, ◌∙◌, subst, arith, Result, Ok, Err, Some, codes}
+use Rattle.std.proofs.Common.{◌≡◌, ℕ, suc, true, false, cond, List, [], ◌∷◌, drop, refl, sym, ap, ◌∙◌, subst, arith}
+use Rattle.std.proofs.Common.{Result, Ok, Err, Some, codes}
 use Rattle.std.proofs.Common.{◌==◌}
 use Rattle.std.proofs.lemmas.Bool.{and_parts}
 use Rattle.std.proofs.lemmas.Bool.Decides.{nat_tests}
@@ -9,7 +10,8 @@ use Rattle.ruby_types.specs.declared.tree.Expr.{Expr}
 use Rattle.ruby_types.specs.declared.tree.Expr.TheVariants as expr
 use Rattle.ruby_grammar.specs.Words.{Word}
 use Rattle.ruby_grammar.specs.Signs.{is_dot, is_name, is_tight_bracket, is_close_bracket}
-use Rattle.ruby_grammar.specs.Rules.{Scope, an_expression, postfix, more_postfix, primary, perhaps_arguments, expression}
+use Rattle.ruby_grammar.specs.Rules.{Scope, an_expression, postfix, more_postfix, primary, perhaps_arguments}
+use Rattle.ruby_grammar.specs.Rules.{expression}
 use Rattle.ruby_grammar.specs.Expressions.{at_levels, postfix_from, method_call, index_from}
 use Rattle.ruby_grammar.specs.Choices.{ruby_choices, next_is, deepen}
 use Rattle.ruby_parse_cursor.specs.declared.fault.Fault.{Fault}
@@ -19,46 +21,68 @@ use Rattle.ruby_parse_steps.proofs.Descent.{g_give, g_chosen, g_word, g_skip, g_
 
 -- ---- the primary
 pub postfix_begins : (here : Scope) (x : Expr) (ws mid rest : List Word) (r : Result Expr Fault) →
-    GivesRule (primary here) ws (Ok x) mid → GivesRule (more_postfix here x) mid r rest → GivesRule (postfix here) ws r rest
-postfix_begins here x ws mid rest r a g = g_chosen {s = an_expression} (postfix here) (postfix_from here) ws rest r refl (g_then {s = an_expression} (primary here) _ x ws mid rest r a g)
+    GivesRule (primary here) ws (Ok x) mid → GivesRule (more_postfix here x) mid r rest →
+    GivesRule (postfix here) ws r rest
+postfix_begins here x ws mid rest r a g = g_chosen {s = an_expression} (postfix here)
+    (postfix_from here) ws rest r refl (g_then {s = an_expression} (primary here) _ x ws mid rest r a g)
 
-pub postfix_breaks : (here : Scope) (e : Fault) (ws rest : List Word) → GivesRule (primary here) ws (Err e) rest → GivesRule (postfix here) ws (Err e) rest
-postfix_breaks here e ws rest a = g_chosen {s = an_expression} (postfix here) (postfix_from here) ws rest (Err e) refl (g_fails {s = an_expression} (primary here) _ ws rest e a)
+pub postfix_breaks : (here : Scope) (e : Fault) (ws rest : List Word) → GivesRule (primary here) ws (Err e) rest →
+    GivesRule (postfix here) ws (Err e) rest
+postfix_breaks here e ws rest a = g_chosen {s = an_expression} (postfix here) (postfix_from here) ws rest
+    (Err e) refl (g_fails {s = an_expression} (primary here) _ ws rest e a)
 
 module _ (here : Scope) (x : Expr) (ws : List Word) where
-  dot_chosen : next_is is_dot (head ws) ≡ true → choose ruby_choices (more_postfix here x) ws ≡ take (method_call here x)
-  dot_chosen p = ap (λ b. cond b (take (method_call here x)) (cond (next_is is_tight_bracket (head ws)) (deepen here.levels (index_from here x)) (take (give x)))) p
+  dot_chosen : next_is is_dot (head ws) ≡ true → choose ruby_choices (more_postfix here x) ws
+      ≡ take (method_call here x)
+  dot_chosen p = ap (λ b. cond b (take (method_call here x))
+      (cond (next_is is_tight_bracket (head ws)) (deepen here.levels (index_from here x)) (take (give x)))) p
 
-  index_chosen : next_is is_dot (head ws) ≡ false → next_is is_tight_bracket (head ws) ≡ true → choose ruby_choices (more_postfix here x) ws ≡ deepen here.levels (index_from here x)
+  index_chosen : next_is is_dot (head ws) ≡ false → next_is is_tight_bracket (head ws) ≡ true →
+      choose ruby_choices (more_postfix here x) ws ≡ deepen here.levels (index_from here x)
   index_chosen p q =
-      ap (λ b. cond b (take (method_call here x)) (cond (next_is is_tight_bracket (head ws)) (deepen here.levels (index_from here x)) (take (give x)))) p
+      ap (λ b. cond b (take (method_call here x))
+      (cond (next_is is_tight_bracket (head ws)) (deepen here.levels (index_from here x)) (take (give x)))) p
       ∙ ap (λ b. cond b (deepen here.levels (index_from here x)) (take (give x))) q
 
-  end_chosen : next_is is_dot (head ws) ≡ false → next_is is_tight_bracket (head ws) ≡ false → choose ruby_choices (more_postfix here x) ws ≡ take (give x)
+  end_chosen : next_is is_dot (head ws) ≡ false → next_is is_tight_bracket (head ws) ≡ false →
+      choose ruby_choices (more_postfix here x) ws ≡ take (give x)
   end_chosen p q =
-      ap (λ b. cond b (take (method_call here x)) (cond (next_is is_tight_bracket (head ws)) (deepen here.levels (index_from here x)) (take (give x)))) p
+      ap (λ b. cond b (take (method_call here x))
+      (cond (next_is is_tight_bracket (head ws)) (deepen here.levels (index_from here x)) (take (give x)))) p
       ∙ ap (λ b. cond b (deepen here.levels (index_from here x)) (take (give x))) q
 
-  pub postfix_ends : next_is is_dot (head ws) ≡ false → next_is is_tight_bracket (head ws) ≡ false → GivesRule (more_postfix here x) ws (Ok x) ws
-  postfix_ends p q = g_chosen {s = an_expression} (more_postfix here x) (give x) ws ws (Ok x) (end_chosen p q) (g_give {s = an_expression} x ws)
+  pub postfix_ends : next_is is_dot (head ws) ≡ false → next_is is_tight_bracket (head ws) ≡ false →
+      GivesRule (more_postfix here x) ws (Ok x) ws
+  postfix_ends p q = g_chosen {s = an_expression} (more_postfix here x) (give x) ws ws (Ok x) (end_chosen p q)
+      (g_give {s = an_expression} x ws)
 
   -- ---- `.name(..)`
-  pub member_reads : (w : Word) (args : List Expr) (y : Expr) (mid behind rest : List Word) → next_is is_dot (head ws) ≡ true → mid ≡ drop 1 ws → mid ≡ w ∷ behind → is_name w ≡ true →
-      GivesRule (perhaps_arguments here) behind (Ok args) rest → y ≡ expr.Call (Some x) w.text args → GivesMore (more_postfix here) x ws (Ok y) rest
+  pub member_reads : (w : Word) (args : List Expr) (y : Expr) (mid behind rest : List Word) →
+      next_is is_dot (head ws) ≡ true → mid ≡ drop 1 ws → mid ≡ w ∷ behind → is_name w ≡ true →
+      GivesRule (perhaps_arguments here) behind (Ok args) rest → y ≡ expr.Call (Some x) w.text args →
+      GivesMore (more_postfix here) x ws (Ok y) rest
   member_reads w args y mid behind rest p d m n a e = λ r end k.
       g_chosen {s = an_expression} (more_postfix here x) (method_call here x) ws end r (dot_chosen p)
-      (g_skip {s = an_expression} is_dot _ ws mid end r p d (λ _. g_word {s = an_expression} is_name _ w mid behind end r m n (g_then {s = an_expression} (perhaps_arguments here) _ args behind rest end r a (subst (λ z. GivesRule (more_postfix here z) rest r end) e k))))
+      (g_skip {s = an_expression} is_dot _ ws mid end r p d
+      (λ _. g_word {s = an_expression} is_name _ w mid behind end r m n
+      (g_then {s = an_expression} (perhaps_arguments here) _ args behind rest end r a
+      (subst (λ z. GivesRule (more_postfix here z) rest r end) e k))))
 
-  pub member_lacks_name : (mid : List Word) → next_is is_dot (head ws) ≡ true → mid ≡ drop 1 ws → next_is is_name (head mid) ≡ false → GivesRule (more_postfix here x) ws (Err f.Unexpected) mid
+  pub member_lacks_name : (mid : List Word) → next_is is_dot (head ws) ≡ true → mid ≡ drop 1 ws →
+      next_is is_name (head mid) ≡ false → GivesRule (more_postfix here x) ws (Err f.Unexpected) mid
   member_lacks_name mid p d n =
       g_chosen {s = an_expression} (more_postfix here x) (method_call here x) ws mid (Err f.Unexpected) (dot_chosen p)
-      (g_skip {s = an_expression} is_dot _ ws mid mid (Err f.Unexpected) p d (λ _. g_lacks {s = an_expression} is_name _ mid n))
+      (g_skip {s = an_expression} is_dot _ ws mid mid (Err f.Unexpected) p d
+      (λ _. g_lacks {s = an_expression} is_name _ mid n))
 
-  pub member_breaks : (w : Word) (d : Fault) (mid behind rest : List Word) → next_is is_dot (head ws) ≡ true → mid ≡ drop 1 ws → mid ≡ w ∷ behind → is_name w ≡ true →
+  pub member_breaks : (w : Word) (d : Fault) (mid behind rest : List Word) → next_is is_dot (head ws) ≡ true →
+      mid ≡ drop 1 ws → mid ≡ w ∷ behind → is_name w ≡ true →
       GivesRule (perhaps_arguments here) behind (Err d) rest → GivesRule (more_postfix here x) ws (Err d) rest
   member_breaks w e mid behind rest p d m n a =
       g_chosen {s = an_expression} (more_postfix here x) (method_call here x) ws rest (Err e) (dot_chosen p)
-      (g_skip {s = an_expression} is_dot _ ws mid rest (Err e) p d (λ _. g_word {s = an_expression} is_name _ w mid behind rest (Err e) m n (g_fails {s = an_expression} (perhaps_arguments here) _ behind rest e a)))
+      (g_skip {s = an_expression} is_dot _ ws mid rest (Err e) p d
+      (λ _. g_word {s = an_expression} is_name _ w mid behind rest (Err e) m n
+      (g_fails {s = an_expression} (perhaps_arguments here) _ behind rest e a)))
 
 same : (m n : ℕ) → (m == n) ≡ true → m ≡ n
 same m n h = grind (arith, nat_tests)
@@ -66,32 +90,46 @@ same m n h = grind (arith, nat_tests)
 -- a word that is no `.`, where it is a `[`
 tight_is_no_dot : (ws : List Word) → next_is is_tight_bracket (head ws) ≡ true → next_is is_dot (head ws) ≡ false
 tight_is_no_dot [] p = refl
-tight_is_no_dot (w ∷ ws) p = let q = and_parts _ _ p in let s = same _ 93 q.0 in subst (λ n. (n == 87) ≡ false) (sym s) refl
+tight_is_no_dot (w ∷ ws) p = let q = and_parts _ _ p in let s = same _ 93 q.0 in
+    subst (λ n. (n == 87) ≡ false) (sym s) refl
 
 -- ---- `[..]`
-pub index_deep : (here : Scope) (x : Expr) (ws : List Word) → next_is is_tight_bracket (head ws) ≡ true → here.levels ≡ 0 → GivesRule (more_postfix here x) ws (Err f.Deep) ws
-index_deep here x ws p e = g_deep {s = an_expression} (more_postfix here x) ws (index_chosen here x ws (tight_is_no_dot ws p) p ∙ ap (λ n. deepen n (index_from here x)) e)
+pub index_deep : (here : Scope) (x : Expr) (ws : List Word) → next_is is_tight_bracket (head ws) ≡ true →
+    here.levels ≡ 0 → GivesRule (more_postfix here x) ws (Err f.Deep) ws
+index_deep here x ws p e = g_deep {s = an_expression} (more_postfix here x) ws
+    (index_chosen here x ws (tight_is_no_dot ws p) p ∙ ap (λ n. deepen n (index_from here x)) e)
 
-module _ (here inner : Scope) (n : ℕ) (x : Expr) (ws mid : List Word) (p : next_is is_tight_bracket (head ws) ≡ true) (l : here.levels ≡ suc n) (i : inner ≡ at_levels here n) (d : mid ≡ drop 1 ws) where
+module _ (here inner : Scope) (n : ℕ) (x : Expr) (ws mid : List Word) (p : next_is is_tight_bracket (head ws) ≡ true)
+    (l : here.levels ≡ suc n) (i : inner ≡ at_levels here n) (d : mid ≡ drop 1 ws) where
   chosen_index : choose ruby_choices (more_postfix here x) ws ≡ take (index_from here x n)
   chosen_index = index_chosen here x ws (tight_is_no_dot ws p) p ∙ ap (λ n. deepen n (index_from here x)) l
 
-  inside : (r : Result Expr Fault) (rest : List Word) → GivesRule (expression inner) mid r rest → GivesRule (expression (at_levels here n)) mid r rest
+  inside : (r : Result Expr Fault) (rest : List Word) → GivesRule (expression inner) mid r rest →
+      GivesRule (expression (at_levels here n)) mid r rest
   inside r rest g = subst (λ s. GivesRule (expression s) mid r rest) i g
 
-  pub index_reads : (b y : Expr) (behind rest : List Word) → GivesRule (expression inner) mid (Ok b) behind → next_is is_close_bracket (head behind) ≡ true → rest ≡ drop 1 behind → y ≡ expr.Call (Some x) (codes "[]") (b ∷ []) →
+  pub index_reads : (b y : Expr) (behind rest : List Word) → GivesRule (expression inner) mid (Ok b) behind →
+      next_is is_close_bracket (head behind) ≡ true → rest ≡ drop 1 behind →
+      y ≡ expr.Call (Some x) (codes "[]") (b ∷ []) →
       GivesMore (more_postfix here) x ws (Ok y) rest
   index_reads b y behind rest a c q e = λ r end k.
       g_chosen {s = an_expression} (more_postfix here x) (index_from here x n) ws end r chosen_index
-      (g_skip {s = an_expression} is_tight_bracket _ ws mid end r p d (λ _. g_then {s = an_expression} (expression (at_levels here n)) _ b mid behind end r (inside (Ok b) behind a)
-      (g_skip {s = an_expression} is_close_bracket _ behind rest end r c q (λ _. subst (λ z. GivesRule (more_postfix here z) rest r end) e k))))
+      (g_skip {s = an_expression} is_tight_bracket _ ws mid end r p d
+      (λ _. g_then {s = an_expression} (expression (at_levels here n)) _ b mid behind end r (inside (Ok b) behind a)
+      (g_skip {s = an_expression} is_close_bracket _ behind rest end r c q
+      (λ _. subst (λ z. GivesRule (more_postfix here z) rest r end) e k))))
 
-  pub index_breaks : (e : Fault) (rest : List Word) → GivesRule (expression inner) mid (Err e) rest → GivesRule (more_postfix here x) ws (Err e) rest
+  pub index_breaks : (e : Fault) (rest : List Word) → GivesRule (expression inner) mid (Err e) rest →
+      GivesRule (more_postfix here x) ws (Err e) rest
   index_breaks e rest a =
       g_chosen {s = an_expression} (more_postfix here x) (index_from here x n) ws rest (Err e) chosen_index
-      (g_skip {s = an_expression} is_tight_bracket _ ws mid rest (Err e) p d (λ _. g_fails {s = an_expression} (expression (at_levels here n)) _ mid rest e (inside (Err e) rest a)))
+      (g_skip {s = an_expression} is_tight_bracket _ ws mid rest (Err e) p d
+      (λ _. g_fails {s = an_expression} (expression (at_levels here n)) _ mid rest e (inside (Err e) rest a)))
 
-  pub index_lacks_close : (b : Expr) (behind : List Word) → GivesRule (expression inner) mid (Ok b) behind → next_is is_close_bracket (head behind) ≡ false → GivesRule (more_postfix here x) ws (Err f.Unexpected) behind
+  pub index_lacks_close : (b : Expr) (behind : List Word) → GivesRule (expression inner) mid (Ok b) behind →
+      next_is is_close_bracket (head behind) ≡ false → GivesRule (more_postfix here x) ws (Err f.Unexpected) behind
   index_lacks_close b behind a c =
       g_chosen {s = an_expression} (more_postfix here x) (index_from here x n) ws behind (Err f.Unexpected) chosen_index
-      (g_skip {s = an_expression} is_tight_bracket _ ws mid behind (Err f.Unexpected) p d (λ _. g_then {s = an_expression} (expression (at_levels here n)) _ b mid behind behind (Err f.Unexpected) (inside (Ok b) behind a) (g_lacks {s = an_expression} is_close_bracket _ behind c)))
+      (g_skip {s = an_expression} is_tight_bracket _ ws mid behind (Err f.Unexpected) p d
+      (λ _. g_then {s = an_expression} (expression (at_levels here n)) _ b mid behind behind (Err f.Unexpected)
+      (inside (Ok b) behind a) (g_lacks {s = an_expression} is_close_bracket _ behind c)))

@@ -1,5 +1,6 @@
 -- How primaries are chosen by the sign of their first word, and read.
-use Rattle.std.proofs.Common.{◌≡◌, ℕ, Bool, true, false, ◌==◌, ◌||◌, cond, List, [], ◌∷◌, drop, refl, sym, ap, ◌∙◌, subst, arith, Ok, Err, ⊎_elim}
+use Rattle.std.proofs.Common.{◌≡◌, ℕ, Bool, true, false, ◌==◌, ◌||◌, cond, List, [], ◌∷◌, drop, refl, sym, ap, ◌∙◌}
+use Rattle.std.proofs.Common.{subst, arith, Ok, Err, ⊎_elim}
 use Rattle.std.proofs.lemmas.Bool.{cases_Bool, cond-false}
 use Rattle.std.proofs.lemmas.Bool.Decides.{nat_tests}
 use Rattle.descent.specs.Grammar.{give, token, only}
@@ -43,7 +44,8 @@ primary_at here n =
 wrong : {A : Type 0} → (98 == 98) ≡ false → A
 wrong e = cc
 
-pub chosen_at : (here : Scope) (ws : List Word) (n : ℕ) (c : Choice ruby an_expression) → head_sign ws ≡ n → (98 == n) ≡ false → primary_at here n ≡ c → choose ruby_choices (primary here) ws ≡ c
+pub chosen_at : (here : Scope) (ws : List Word) (n : ℕ) (c : Choice ruby an_expression) → head_sign ws ≡ n →
+    (98 == n) ≡ false → primary_at here n ≡ c → choose ruby_choices (primary here) ws ≡ c
 chosen_at here [] n c e o h = wrong (subst (λ m. (98 == m) ≡ false) (sym e) o)
 chosen_at here (w ∷ ws) n c e o h = subst (λ m. primary_at here m ≡ c) (sym e) h
 
@@ -56,16 +58,24 @@ sees (w ∷ ws) n e o = subst (λ m. (m == n) ≡ true) (sym e) (self n)
     self n = grind (arith, nat_tests)
 
 -- a word that is an expression by itself
-pub word_reads : (here : Scope) (n : ℕ) (x : Expr) (ws rest : List Word) → head_sign ws ≡ n → (98 == n) ≡ false → primary_at here n ≡ take (token (is n) λ _. give x) → rest ≡ drop 1 ws → GivesRule (primary here) ws (Ok x) rest
+pub word_reads : (here : Scope) (n : ℕ) (x : Expr) (ws rest : List Word) → head_sign ws ≡ n → (98 == n) ≡ false →
+    primary_at here n ≡ take (token (is n) λ _. give x) → rest ≡ drop 1 ws → GivesRule (primary here) ws (Ok x) rest
 word_reads here n x ws rest e o h d =
-    g_chosen {s = an_expression} (primary here) (token (is n) λ _. give x) ws rest (Ok x) (chosen_at here ws n _ e o h) (g_skip {s = an_expression} (is n) _ ws rest rest (Ok x) (sees ws n e o) d (λ _. g_give {s = an_expression} x rest))
+    g_chosen {s = an_expression} (primary here) (token (is n) λ _. give x) ws rest (Ok x)
+    (chosen_at here ws n _ e o h)
+    (g_skip {s = an_expression} (is n) _ ws rest rest (Ok x) (sees ws n e o) d
+    (λ _. g_give {s = an_expression} x rest))
 
 -- a word whose text tells the value
-pub text_reads : (here : Scope) (n : ℕ) (value : List ℕ → Expr) (w : Word) (x : Expr) (ws rest : List Word) → head_sign ws ≡ n → (98 == n) ≡ false → primary_at here n ≡ take (token (is n) λ v. give (value v.text)) →
+pub text_reads : (here : Scope) (n : ℕ) (value : List ℕ → Expr) (w : Word) (x : Expr) (ws rest : List Word) →
+    head_sign ws ≡ n → (98 == n) ≡ false → primary_at here n ≡ take (token (is n) λ v. give (value v.text)) →
     ws ≡ w ∷ rest → is n w ≡ true → x ≡ value w.text → GivesRule (primary here) ws (Ok x) rest
 text_reads here n value w x ws rest e o h q p v =
-    g_chosen {s = an_expression} (primary here) (token (is n) λ v. give (value v.text)) ws rest (Ok x) (chosen_at here ws n _ e o h)
-    (g_word {s = an_expression} (is n) _ w ws rest rest (Ok x) q p (subst (λ y. Gives {s = an_expression} (give (value w.text)) rest (Ok y) rest) (sym v) (g_give {s = an_expression} (value w.text) rest)))
+    g_chosen {s = an_expression} (primary here) (token (is n) λ v. give (value v.text)) ws rest (Ok x)
+    (chosen_at here ws n _ e o h)
+    (g_word {s = an_expression} (is n) _ w ws rest rest (Ok x) q p
+    (subst (λ y. Gives {s = an_expression} (give (value w.text)) rest (Ok y) rest) (sym v)
+    (g_give {s = an_expression} (value w.text) rest)))
 
 -- ---- no primary
 is_same : (m n : ℕ) → (m == n) ≡ true → m ≡ n
@@ -78,7 +88,8 @@ neither : (a b : Bool) → (a || b) ≡ false → (a ≡ false) × (b ≡ false)
 neither true b e = absurd (cc)
 neither false b e = (refl, e)
 
-pub primary_none : (here : Scope) (n : ℕ) → nests n ≡ false → (n ≡ 55 → ⊥) → (n ≡ 54 → ⊥) → (n ≡ 52 → ⊥) → (n ≡ 12 → ⊥) → (n ≡ 13 → ⊥) → (n ≡ 14 → ⊥) → (n ≡ 11 → ⊥) → primary_at here n ≡ nothing
+pub primary_none : (here : Scope) (n : ℕ) → nests n ≡ false → (n ≡ 55 → ⊥) → (n ≡ 54 → ⊥) → (n ≡ 52 → ⊥) →
+    (n ≡ 12 → ⊥) → (n ≡ 13 → ⊥) → (n ≡ 14 → ⊥) → (n ≡ 11 → ⊥) → primary_at here n ≡ nothing
 primary_none here n h int sym' ivar nil yes' no' self =
     let a = neither _ _ h in
     let b = neither _ _ a.0 in
@@ -101,6 +112,8 @@ primary_none here n h int sym' ivar nil yes' no' self =
     ∙ cond-false (n == 95) _ _ k.1
     ∙ cond-false (n == 91) _ _ l.0
 
-pub no_primary : (here : Scope) (n : ℕ) (ws : List Word) → head_sign ws ≡ n → primary_at here n ≡ nothing → GivesRule (primary here) ws (Err f.Unexpected) ws
+pub no_primary : (here : Scope) (n : ℕ) (ws : List Word) → head_sign ws ≡ n → primary_at here n ≡ nothing →
+    GivesRule (primary here) ws (Err f.Unexpected) ws
 no_primary here n [] e h = g_nothing {s = an_expression} (primary here) [] refl
-no_primary here n (w ∷ ws) e h = g_nothing {s = an_expression} (primary here) (w ∷ ws) (subst (λ m. primary_at here m ≡ nothing) (sym e) h)
+no_primary here n (w ∷ ws) e h = g_nothing {s = an_expression} (primary here) (w ∷ ws)
+    (subst (λ m. primary_at here m ≡ nothing) (sym e) h)

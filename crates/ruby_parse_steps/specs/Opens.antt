@@ -28,9 +28,13 @@ abbrev pub BehindLast : Scope → List Open → Expr → List Word → Result Ex
 BehindLast here opens value ws r end = Behind here (reverse opens) value ws r end
 
 -- What ending the choices answered: the whole value, or choices of which the last goes on behind its `:`.
-abbrev pub GivesEnded : Scope → List Open → Expr → List Word → Result (Option Expr) Fault → List Open → List Word → Type 0
+abbrev pub GivesEnded : Scope → List Open → Expr → List Word → Result (Option Expr) Fault → List Open → List Word →
+    Type 0
 GivesEnded here opens value ws (Ok (Some whole)) left rest = BehindLast here opens value ws (Ok whole) rest
 GivesEnded here opens value ws (Ok None) left rest =
-    ((c : Expr) (mid : List Word) (r : Result Expr Fault) (end : List Word) → GivesRule (expression here) rest (Ok c) mid → BehindLast here left c mid r end → BehindLast here opens value ws r end)
-    × ((e : Fault) (end : List Word) → GivesRule (expression here) rest (Err e) end → BehindLast here opens value ws (Err e) end)
+    ((c : Expr) (mid : List Word) (r : Result Expr Fault) (end : List Word) →
+    GivesRule (expression here) rest (Ok c) mid → BehindLast here left c mid r end →
+    BehindLast here opens value ws r end)
+    × ((e : Fault) (end : List Word) → GivesRule (expression here) rest (Err e) end →
+    BehindLast here opens value ws (Err e) end)
 GivesEnded here opens value ws (Err e) left rest = BehindLast here opens value ws (Err e) rest

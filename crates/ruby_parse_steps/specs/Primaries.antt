@@ -25,10 +25,13 @@ begins_double (b ∷ bs) = b == 34
 
 -- arguments in parentheses, and what follows them
 abbrev pub arguments_then : {s : Sort} → Scope → (List Expr → Prod ruby s) → ℕ → Prod ruby s
-arguments_then here next levels = token is_tight_paren λ _. call (members (at_levels here levels) []) λ args. token is_close_paren λ _. next args
+arguments_then here next levels = token is_tight_paren λ _. call (members (at_levels here levels) []) λ args.
+    token is_close_paren λ _. next args
 
 -- What was returned of arguments is what any rule reads that goes on with them.
 abbrev pub GivesArguments : Scope → List Word → Result (List Expr) Fault → List Word → Type 0
-GivesArguments here ws (Ok args) rest = (s : Sort) (outer : Rule s) (next : List Expr → Prod ruby s) → choose ruby_choices outer ws ≡ deepen here.levels (arguments_then here next) →
+GivesArguments here ws (Ok args) rest = (s : Sort) (outer : Rule s) (next : List Expr → Prod ruby s) →
+    choose ruby_choices outer ws ≡ deepen here.levels (arguments_then here next) →
     (r : Result (Val s) Fault) (end : List Word) → Gives (next args) rest r end → GivesRule outer ws r end
-GivesArguments here ws (Err e) rest = (s : Sort) (outer : Rule s) (next : List Expr → Prod ruby s) → choose ruby_choices outer ws ≡ deepen here.levels (arguments_then here next) → GivesRule outer ws (Err e) rest
+GivesArguments here ws (Err e) rest = (s : Sort) (outer : Rule s) (next : List Expr → Prod ruby s) →
+    choose ruby_choices outer ws ≡ deepen here.levels (arguments_then here next) → GivesRule outer ws (Err e) rest

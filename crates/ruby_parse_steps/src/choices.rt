@@ -32,7 +32,8 @@ pub fn ended(
     value: Expr,
     reader: &mut Reader<'_>,
 ) -> Result<Option<Expr>, Fault>
-    ensures reads { GivesEnded (scope_view scope.entry) opens.old.items value reader.old result opens.new.items reader.new }
+    ensures reads { GivesEnded (scope_view scope.entry) opens.old.items value reader.old result opens.new.items
+        reader.new }
     ensures shorter { length reader.new ≤ length reader.old }
 {
     let mut value = value;

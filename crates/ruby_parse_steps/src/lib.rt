@@ -1,4 +1,5 @@
-//! What the functions of the reader by descent answer, and those that call none of the others: trees of operators, paths,
+//! What the functions of the reader by descent answer, and those that call none of the others: trees of operators,
+//! paths,
 //! levels of nesting, choices that were begun.
 #![tactic(auto)]
 

@@ -15,7 +15,8 @@ use ruby_types::{Expr, Exprs, Text};
 use sqlite_items::Boxed;
 use std::alloc::{AllocError, Global};
 
-/// The levels of operators with two operands, from the tightest on: `*` `/` `%`, `+` `-`, comparisons, `==` `!=`, `&&`, `||`.
+/// The levels of operators with two operands, from the tightest on: `*` `/` `%`, `+` `-`, comparisons, `==` `!=`,
+/// `&&`, `||`.
 /// `Units` has none.
 #[derive(Clone, Copy, PartialEq, Eq)]
 pub enum Level {

@@ -1,4 +1,5 @@
-//! Chains of a million links, which open no level: they are read and printed by loops. The stack is too small for a call a link,
+//! Chains of a million links, which open no level: they are read and printed by loops. The stack is too small for a
+//! call a link,
 //! so their trees are taken apart link by link here.
 
 use crate::large::repeated;

@@ -8,7 +8,8 @@
 //! | `(if (a ..) (b ..) (else ..))`, `(a if b)` | an `if` with its arms, and one behind its statement |
 //! | `nil`, `1`, `:a`, `a`, `@a`, `::A::B` | words, numbers, symbols, local and instance variables, constants |
 //! | `(str "a" 1)`, `[1 2]`, `{(:a 1)}` | texts with their parts, arrays, hashes |
-//! | `(f 1 2)`, `(1 .f 2)`, `(1 + 2)`, `(a [] 1)` | calls on self and on a value; the name of a method has a `.` unless it is an operator |
+//! | `(f 1 2)`, `(1 .f 2)`, `(1 + 2)`, `(a [] 1)` | calls on self and on a value; the name of a method has a `.`
+//! unless it is an operator |
 //! | `(! a)`, `(a && b)`, `(a || b)`, `(a ? b : c)` | the rest |
 
 use ruby_types::{ConstRef, Def, Expr, FileTree, Part, Stmt, Stmts, Text};

@@ -1,5 +1,6 @@
 -- What is written of an expression at its beginning and what is pending then make its whole text.
-use Rattle.std.proofs.Common.{◌≡◌, ℕ, Bool, List, ◌++◌, map, Option, Some, None, Result, Ok, Err, Bor, codes, ap, ◌∙◌, sym, append_assoc, arith}
+use Rattle.std.proofs.Common.{◌≡◌, ℕ, Bool, List, ◌++◌, map, Option, Some, None, Result, Ok, Err, Bor, codes, ap, ◌∙◌}
+use Rattle.std.proofs.Common.{sym, append_assoc, arith}
 use Rattle.std.proofs.lemmas.Grind.{common_steps}
 use Rattle.std.specs.Result.{OnOk}
 use Rattle.ruby_types.specs.declared.tree.Expr.{Expr}
@@ -12,7 +13,8 @@ use Rattle.ruby_print.specs.Pending.{piece_text}
 use Rattle.ruby_print.proofs.ExpressionLaws.{print-own, print-parts, print-Not, print-And, print-Or, print-Choose}
 
 -- a whole text w is written, and nothing more is pending
-pub all-written : {T E : Type 0} (r : Result T E) (o0 o1 p t w : List ℕ) → w ≡ t → OnOk r (o1 ≡ o0 ++ t) → OnOk r (o1 ++ p ≡ o0 ++ (w ++ p))
+pub all-written : {T E : Type 0} (r : Result T E) (o0 o1 p t w : List ℕ) → w ≡ t → OnOk r (o1 ≡ o0 ++ t) →
+    OnOk r (o1 ++ p ≡ o0 ++ (w ++ p))
 all-written (Ok value) o0 o1 p t w e h = ap (λ u. u ++ p) (h ∙ ap (λ u. o0 ++ u) (sym e)) ∙ append_assoc o0 w p
 all-written (Err error) o0 o1 p t w e h = h
 
@@ -20,15 +22,18 @@ begun-parts : (o0 o1 p0 p1 b s w : List ℕ) → b ++ s ≡ w ++ p0 → o1 ≡ o
 begun-parts o0 o1 p0 p1 b s w e h i = grind (arith, common_steps)
 
 -- the beginning b of a text w is written, and its rest is pending
-begun : {T E : Type 0} (r : Result T E) (o0 o1 p0 p1 b s w : List ℕ) → b ++ s ≡ w ++ p0 → OnOk r (o1 ≡ o0 ++ b) → OnOk r (p1 ≡ s) → OnOk r (o1 ++ p1 ≡ o0 ++ (w ++ p0))
+begun : {T E : Type 0} (r : Result T E) (o0 o1 p0 p1 b s w : List ℕ) → b ++ s ≡ w ++ p0 → OnOk r (o1 ≡ o0 ++ b) →
+    OnOk r (p1 ≡ s) → OnOk r (o1 ++ p1 ≡ o0 ++ (w ++ p0))
 begun (Ok value) o0 o1 p0 p1 b s w e h i = begun-parts o0 o1 p0 p1 b s w e h i
 begun (Err error) o0 o1 p0 p1 b s w e h i = h
 
 operator-parts : (o a r p : List ℕ) → o ++ (a ++ (r ++ p)) ≡ (o ++ (a ++ r)) ++ p
 operator-parts o a r p = grind (arith, common_steps)
 
-pub begun-operator : {T E : Type 0} (r : Result T E) (piece : Pending) (sign : Bor (List ℕ)) (x : Bor Expr) (inside : Bool) (o0 o1 p0 p1 : List ℕ) →
-    piece ≡ p.Operator sign x inside → OnOk r (o1 ≡ o0 ++ sign.now) → OnOk r (p1 ≡ inner x.now ++ (right inside ++ p0)) →
+pub begun-operator : {T E : Type 0} (r : Result T E) (piece : Pending) (sign : Bor (List ℕ)) (x : Bor Expr)
+    (inside : Bool) (o0 o1 p0 p1 : List ℕ) →
+    piece ≡ p.Operator sign x inside → OnOk r (o1 ≡ o0 ++ sign.now) →
+    OnOk r (p1 ≡ inner x.now ++ (right inside ++ p0)) →
     OnOk r (o1 ++ p1 ≡ o0 ++ (piece_text piece ++ p0))
 begun-operator r piece sign x inside o0 o1 p0 p1 e h i =
     begun r o0 o1 p0 p1 _ _ (piece_text piece)
@@ -36,23 +41,32 @@ begun-operator r piece sign x inside o0 o1 p0 p1 e h i =
 
 -- ---- by the kinds of expressions: x is the one that is begun
 
-pub whole-own : {T E : Type 0} (r : Result T E) (x : Expr) (on : Option Expr) (name : List ℕ) (args args' : List Expr) (inside : Bool) (o0 o1 p : List ℕ) →
-    x ≡ v.Call on name args → on ≡ None → args' ≡ args → OnOk r (o1 ≡ o0 ++ (name ++ grouped (members (map expression args')))) → OnOk r (o1 ++ p ≡ o0 ++ (expression x inside ++ p))
+pub whole-own : {T E : Type 0} (r : Result T E) (x : Expr) (on : Option Expr) (name : List ℕ)
+    (args args' : List Expr) (inside : Bool) (o0 o1 p : List ℕ) →
+    x ≡ v.Call on name args → on ≡ None → args' ≡ args →
+    OnOk r (o1 ≡ o0 ++ (name ++ grouped (members (map expression args')))) →
+    OnOk r (o1 ++ p ≡ o0 ++ (expression x inside ++ p))
 whole-own r x on name args args' inside o0 o1 p e n a h =
     all-written r o0 o1 p _ (expression x inside)
-    (ap (λ x. expression x inside) (e ∙ ap (λ on. v.Call on name args) n) ∙ print-own name args inside ∙ ap (λ args. name ++ grouped (members (map expression args))) (sym a)) h
+    (ap (λ x. expression x inside) (e ∙ ap (λ on. v.Call on name args) n) ∙ print-own name args inside
+    ∙ ap (λ args. name ++ grouped (members (map expression args))) (sym a)) h
 
 call-parts : (a b c p : List ℕ) → a ++ (b ++ (c ++ p)) ≡ (a ++ (b ++ c)) ++ p
 call-parts a b c p = grind (arith, common_steps)
 
-pub begun-call : {T E : Type 0} (r : Result T E) (x on' : Expr) (on : Option Expr) (name : List ℕ) (args args' : List Expr) (inside : Bool) (o0 o1 p0 p1 : List ℕ) →
+pub begun-call : {T E : Type 0} (r : Result T E) (x on' : Expr) (on : Option Expr) (name : List ℕ)
+    (args args' : List Expr) (inside : Bool) (o0 o1 p0 p1 : List ℕ) →
     x ≡ v.Call on name args → on ≡ Some on' → args' ≡ args →
-    OnOk r (o1 ≡ o0 ++ before_receiver name inside) → OnOk r (p1 ≡ inner on' ++ (behind_receiver name (map expression args') inside ++ p0)) →
+    OnOk r (o1 ≡ o0 ++ before_receiver name inside) →
+    OnOk r (p1 ≡ inner on' ++ (behind_receiver name (map expression args') inside ++ p0)) →
     OnOk r (o1 ++ p1 ≡ o0 ++ (expression x inside ++ p0))
 begun-call r x on' on name args args' inside o0 o1 p0 p1 e n a h i =
     begun r o0 o1 p0 p1 _ _ (expression x inside)
     (call-parts (before_receiver name inside) (inner on') (behind_receiver name (map expression args') inside) p0
-    ∙ ap (λ t. t ++ p0) (sym (ap (λ x. expression x inside) (e ∙ ap (λ on. v.Call on name args) n) ∙ print-parts on' name args inside ∙ ap (λ args. before_receiver name inside ++ (inner on' ++ behind_receiver name (map expression args) inside)) (sym a)))) h i
+    ∙ ap (λ t. t ++ p0) (sym (ap (λ x. expression x inside) (e ∙ ap (λ on. v.Call on name args) n)
+    ∙ print-parts on' name args inside
+    ∙ ap (λ args. before_receiver name inside ++
+    (inner on' ++ behind_receiver name (map expression args) inside)) (sym a)))) h i
 
 last-parts : (l o a r p : List ℕ) → l ++ (o ++ (a ++ (r ++ p))) ≡ (l ++ ((o ++ a) ++ r)) ++ p
 last-parts l o a r p = grind (arith, common_steps)
@@ -76,7 +90,9 @@ pub begun-And : {T E : Type 0} (r : Result T E) (x a a' b b' : Expr) (inside : B
 begun-And r x a a' b b' inside o0 o1 p0 p1 e ea eb h i =
     begun r o0 o1 p0 p1 _ _ (expression x inside)
     (both-parts (left inside) (inner a') (codes " && ") (inner b') (right inside) p0
-    ∙ ap (λ t. t ++ p0) (sym (ap (λ x. expression x inside) (e ∙ ap (λ a. v.And a b) (sym ea) ∙ ap (λ b. v.And a' b) (sym eb)) ∙ print-And a' b' inside))) h i
+    ∙ ap (λ t. t ++ p0) (sym
+    (ap (λ x. expression x inside) (e ∙ ap (λ a. v.And a b) (sym ea) ∙ ap (λ b. v.And a' b) (sym eb))
+    ∙ print-And a' b' inside))) h i
 
 pub begun-Or : {T E : Type 0} (r : Result T E) (x a a' b b' : Expr) (inside : Bool) (o0 o1 p0 p1 : List ℕ) →
     x ≡ v.Or a b → a' ≡ a → b' ≡ b →
@@ -85,16 +101,22 @@ pub begun-Or : {T E : Type 0} (r : Result T E) (x a a' b b' : Expr) (inside : Bo
 begun-Or r x a a' b b' inside o0 o1 p0 p1 e ea eb h i =
     begun r o0 o1 p0 p1 _ _ (expression x inside)
     (both-parts (left inside) (inner a') (codes " || ") (inner b') (right inside) p0
-    ∙ ap (λ t. t ++ p0) (sym (ap (λ x. expression x inside) (e ∙ ap (λ a. v.Or a b) (sym ea) ∙ ap (λ b. v.Or a' b) (sym eb)) ∙ print-Or a' b' inside))) h i
+    ∙ ap (λ t. t ++ p0) (sym
+    (ap (λ x. expression x inside) (e ∙ ap (λ a. v.Or a b) (sym ea) ∙ ap (λ b. v.Or a' b) (sym eb))
+    ∙ print-Or a' b' inside))) h i
 
-choice-parts : (l a o b q c r p : List ℕ) → l ++ (a ++ (o ++ (b ++ (q ++ (c ++ (r ++ p)))))) ≡ (l ++ ((a ++ (o ++ (b ++ (q ++ c)))) ++ r)) ++ p
+choice-parts : (l a o b q c r p : List ℕ) → l ++ (a ++ (o ++ (b ++ (q ++ (c ++ (r ++ p))))))
+    ≡ (l ++ ((a ++ (o ++ (b ++ (q ++ c)))) ++ r)) ++ p
 choice-parts l a o b q c r p = grind (arith, common_steps)
 
 pub begun-Choose : {T E : Type 0} (r : Result T E) (x a a' b b' c c' : Expr) (inside : Bool) (o0 o1 p0 p1 : List ℕ) →
     x ≡ v.Choose a b c → a' ≡ a → b' ≡ b → c' ≡ c →
-    OnOk r (o1 ≡ o0 ++ left inside) → OnOk r (p1 ≡ inner a' ++ (codes " ? " ++ (inner b' ++ (codes " : " ++ (inner c' ++ (right inside ++ p0)))))) →
+    OnOk r (o1 ≡ o0 ++ left inside) →
+    OnOk r (p1 ≡ inner a' ++ (codes " ? " ++ (inner b' ++ (codes " : " ++ (inner c' ++ (right inside ++ p0)))))) →
     OnOk r (o1 ++ p1 ≡ o0 ++ (expression x inside ++ p0))
 begun-Choose r x a a' b b' c c' inside o0 o1 p0 p1 e ea eb ec h i =
     begun r o0 o1 p0 p1 _ _ (expression x inside)
     (choice-parts (left inside) (inner a') (codes " ? ") (inner b') (codes " : ") (inner c') (right inside) p0
-    ∙ ap (λ t. t ++ p0) (sym (ap (λ x. expression x inside) (e ∙ ap (λ a. v.Choose a b c) (sym ea) ∙ ap (λ b. v.Choose a' b c) (sym eb) ∙ ap (λ c. v.Choose a' b' c) (sym ec)) ∙ print-Choose a' b' c' inside))) h i
+    ∙ ap (λ t. t ++ p0) (sym
+    (ap (λ x. expression x inside) (e ∙ ap (λ a. v.Choose a b c) (sym ea) ∙ ap (λ b. v.Choose a' b c) (sym eb)
+    ∙ ap (λ c. v.Choose a' b' c) (sym ec)) ∙ print-Choose a' b' c' inside))) h i

@@ -1,12 +1,14 @@
 -- How the text, the depth and the steps of what is pending grow with a piece.
-use Rattle.std.proofs.Common.{◌≡◌, ℕ, ◌+◌, ◌*◌, ◌<◌, ◌≤◌, max, List, [], ◌∷◌, ◌++◌, refl, ap, ◌∙◌, sym, append_assoc, arith}
+use Rattle.std.proofs.Common.{◌≡◌, ℕ, ◌+◌, ◌*◌, ◌<◌, ◌≤◌, max, List, [], ◌∷◌, ◌++◌, refl, ap, ◌∙◌, sym, append_assoc}
+use Rattle.std.proofs.Common.{arith}
 use Rattle.std.proofs.lemmas.Grind.{common_steps}
 use Rattle.ruby_print.specs.declared.pending.Pending.{Pending}
 use Rattle.ruby_print.specs.Pending.{piece_text, pending_text, piece_depth, depth, piece_steps, steps}
 
 pub text_push : (xs : List Pending) (x : Pending) → pending_text (xs ++ x ∷ []) ≡ piece_text x ++ pending_text xs
 text_push [] x = grind (arith, common_steps)
-text_push (y ∷ ys) x = ap (λ t. t ++ piece_text y) (text_push ys x) ∙ append_assoc (piece_text x) (pending_text ys) (piece_text y)
+text_push (y ∷ ys) x = ap (λ t. t ++ piece_text y) (text_push ys x)
+    ∙ append_assoc (piece_text x) (pending_text ys) (piece_text y)
 
 pub depth_push : (xs : List Pending) (x : Pending) → depth (xs ++ x ∷ []) ≡ max (depth xs) (piece_depth x)
 depth_push [] x = refl
@@ -18,15 +20,19 @@ steps_push (y ∷ ys) x = let e = steps_push ys x in omega arith
 
 -- ---- one piece x is taken off from xs, and zs is what is pending then
 
-pub fits-pop : (xs ys : List Pending) (x : Pending) (n : ℕ) → xs ≡ ys ++ x ∷ [] → depth xs ≤ n → 8 * piece_depth x + 1 < 8 * n + 2
+pub fits-pop : (xs ys : List Pending) (x : Pending) (n : ℕ) → xs ≡ ys ++ x ∷ [] → depth xs ≤ n →
+    8 * piece_depth x + 1 < 8 * n + 2
 fits-pop xs ys x n e h = let d = ap depth e ∙ depth_push ys x in omega arith
 
 pub text-pop : (o e o0 o1 : List ℕ) (xs ys zs : List Pending) (x : Pending) → xs ≡ ys ++ x ∷ [] →
-    o0 ++ pending_text xs ≡ o ++ e → o1 ++ pending_text zs ≡ o0 ++ (piece_text x ++ pending_text ys) → o1 ++ pending_text zs ≡ o ++ e
+    o0 ++ pending_text xs ≡ o ++ e → o1 ++ pending_text zs ≡ o0 ++ (piece_text x ++ pending_text ys) →
+    o1 ++ pending_text zs ≡ o ++ e
 text-pop o e o0 o1 xs ys zs x p h i = i ∙ ap (λ t. o0 ++ t) (sym (ap pending_text p ∙ text_push ys x)) ∙ h
 
-pub depth-pop : (xs ys zs : List Pending) (x : Pending) (n : ℕ) → xs ≡ ys ++ x ∷ [] → depth xs ≤ n → depth zs ≤ max (depth ys) (piece_depth x) → depth zs ≤ n
+pub depth-pop : (xs ys zs : List Pending) (x : Pending) (n : ℕ) → xs ≡ ys ++ x ∷ [] → depth xs ≤ n →
+    depth zs ≤ max (depth ys) (piece_depth x) → depth zs ≤ n
 depth-pop xs ys zs x n p h i = let d = ap depth p ∙ depth_push ys x in omega arith
 
-pub steps-pop : (xs ys zs : List Pending) (x : Pending) → xs ≡ ys ++ x ∷ [] → steps zs < steps ys + piece_steps x → steps zs < steps xs
+pub steps-pop : (xs ys zs : List Pending) (x : Pending) → xs ≡ ys ++ x ∷ [] → steps zs < steps ys + piece_steps x →
+    steps zs < steps xs
 steps-pop xs ys zs x p i = let d = ap steps p ∙ steps_push ys x in omega arith

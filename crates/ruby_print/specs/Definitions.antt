@@ -1,4 +1,5 @@
--- How definitions and a whole file are printed: each item on a line of its own, two spaces deeper than what it stands in.
+-- How definitions and a whole file are printed: each item on a line of its own, two spaces deeper than what it stands
+-- in.
 use Rattle.std.specs.Prelude.{ℕ, Bool, List, [], ◌∷◌, ◌++◌, map, Option, Some, None, codes, if◌then◌else◌}
 use Rattle.std.specs.List.{flat_map}
 use Rattle.ruby_types.specs.Paths.{path_text}
@@ -33,7 +34,8 @@ symbol name = 58 ∷ name
 
 abbrev pub definition_step : Def-F Placed → Placed
 definition_step (d.Module path xs) indent = codes "module " ++ (path_text path ++ body indent xs)
-definition_step (d.Class path parent xs) indent = codes "class " ++ (path_text path ++ (parent_text parent ++ body indent xs))
+definition_step (d.Class path parent xs) indent =
+    codes "class " ++ (path_text path ++ (parent_text parent ++ body indent xs))
 definition_step (d.Assign name value) indent = name ++ (codes " = " ++ alone value)
 definition_step (d.Method single name params ss) indent = heading single name params ++ body indent (map statement ss)
 definition_step (d.Include c) indent = codes "include " ++ constant_text c

@@ -1,6 +1,8 @@
--- How an expression is printed. Every operator expression and every choice that stands inside another expression stands in
+-- How an expression is printed. Every operator expression and every choice that stands inside another expression
+-- stands in
 -- parentheses, so that no rule of precedence is needed to read it back.
-use Rattle.std.specs.Prelude.{ℕ, Bool, true, false, ◌&&◌, ◌||◌, not, nat_le, ◌==◌, List, [], ◌∷◌, ◌++◌, map, Option, Some, None, if◌then◌else◌, codes, bytes_eq}
+use Rattle.std.specs.Prelude.{ℕ, Bool, true, false, ◌&&◌, ◌||◌, not, nat_le, ◌==◌, List, [], ◌∷◌, ◌++◌, map, Option}
+use Rattle.std.specs.Prelude.{Some, None, if◌then◌else◌, codes, bytes_eq}
 use Rattle.std.specs.List.{flat_map}
 use Rattle.std.specs.Fmt.{signed_decimal}
 use Rattle.ruby_types.specs.declared.tree.Expr.{Expr, fold-Expr}
@@ -87,7 +89,8 @@ expression_step (e.Call on name args) inside = call_text on name args inside
 expression_step (e.Not a) inside = operation (33 ∷ a true) inside
 expression_step (e.And a b) inside = operation (a true ++ (codes " && " ++ b true)) inside
 expression_step (e.Or a b) inside = operation (a true ++ (codes " || " ++ b true)) inside
-expression_step (e.Choose a b c) inside = operation (a true ++ (codes " ? " ++ (b true ++ (codes " : " ++ c true)))) inside
+expression_step (e.Choose a b c) inside = operation (a true ++ (codes " ? " ++ (b true ++ (codes " : " ++ c true))))
+    inside
 
 -- a part of a text: its bytes, or an expression in `#{` and `}`
 abbrev pub part_step : Part-F Printed (List ℕ) → List ℕ

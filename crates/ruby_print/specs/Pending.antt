@@ -1,4 +1,5 @@
--- What is still to be written of an expression while the bytes before it are written: pieces, of which the last comes first.
+-- What is still to be written of an expression while the bytes before it are written: pieces, of which the last comes
+-- first.
 use Rattle.std.specs.Prelude.{ℕ, ◌+◌, ◌*◌, max, List, [], ◌∷◌, ◌++◌, map, Option, Some, None}
 use Rattle.ruby_types.specs.declared.tree.Expr.{Expr, fold-Expr, size-Expr}
 use Rattle.ruby_types.specs.declared.tree.Expr.TheViews.{weight-Expr-Array-0}

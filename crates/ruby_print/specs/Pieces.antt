@@ -3,7 +3,8 @@ use Rattle.std.specs.Prelude.{ℕ, List, [], ◌∷◌, ◌++◌, if◌then◌el
 use Rattle.ruby_types.specs.Paths.{path_text}
 use Rattle.ruby_types.specs.declared.tree.ConstRef.{ConstRef}
 
--- One byte of a text in double quotes (Ruby's documentation of string literals): `"` (34), `\` (92) and `#` (35) stand behind
+-- One byte of a text in double quotes (Ruby's documentation of string literals): `"` (34), `\` (92) and `#` (35)
+-- stand behind
 -- a `\`; LF (10) is `\n`, TAB (9) `\t`, CR (13) `\r` and ESC (27) `\e`; any other byte is itself.
 abbrev pub escaped : ℕ → List ℕ
 escaped byte =

@@ -78,7 +78,8 @@ fn push_definition(
 }
 
 fn push_readers(written: &mut Vec<u8>, names: &[Text]) -> Result<(), AllocError>
-    ensures { OnOk result (written.new.items ≡ written.old.items ++ (codes "attr_reader " ++ joined (map spec.symbol names.now))) }
+    ensures { OnOk result (written.new.items
+        ≡ written.old.items ++ (codes "attr_reader " ++ joined (map spec.symbol names.now))) }
 {
     written.extend_from_slice(b"attr_reader ")?;
     push_symbols(written, names)
@@ -92,7 +93,8 @@ fn push_body(
     indent: &[u8],
     definitions: &[Def],
 ) -> Result<(), AllocError>
-    ensures { OnOk result (written.new.items ≡ written.old.items ++ spec.body indent.now (map spec.definition definitions.now)) }
+    ensures { OnOk result (written.new.items ≡ written.old.items ++ spec.body indent.now
+        (map spec.definition definitions.now)) }
 {
     let spaces = deeper(alloc, indent)?;
     written.push(b'\n')?;
@@ -108,7 +110,8 @@ fn push_method_body(
     indent: &[u8],
     body: &[Stmt],
 ) -> Result<(), AllocError>
-    ensures { OnOk result (written.new.items ≡ written.old.items ++ spec.body indent.now (map statements.statement body.now)) }
+    ensures { OnOk result (written.new.items ≡ written.old.items ++ spec.body indent.now
+        (map statements.statement body.now)) }
 {
     push_inside(alloc, written, indent, body)?;
     written.extend_from_slice(b"end")
@@ -145,7 +148,8 @@ fn push_heading(
 }
 
 fn push_def(written: &mut Vec<u8>, single: bool) -> Result<(), AllocError>
-    ensures { OnOk result (written.new.items ≡ written.old.items ++ (if single then codes "def self." else codes "def ")) }
+    ensures { OnOk result (written.new.items
+        ≡ written.old.items ++ (if single then codes "def self." else codes "def ")) }
 {
     if single {
         written.extend_from_slice(b"def self.")

@@ -40,7 +40,8 @@ fn push_piece<'a>(
     pending: &mut Vec<Pending<'a>>,
     piece: Pending<'a>,
 ) -> Result<(), AllocError>
-    ensures text { OnOk result (written.new.items ++ pending_text pending.new.items ≡ written.old.items ++ (piece_text piece.entry ++ pending_text pending.old.items)) }
+    ensures text { OnOk result (written.new.items ++ pending_text pending.new.items
+        ≡ written.old.items ++ (piece_text piece.entry ++ pending_text pending.old.items)) }
     ensures depth { OnOk result (depth pending.new.items ≤ max (depth pending.old.items) (piece_depth piece.entry)) }
     ensures steps { OnOk result (steps pending.new.items < steps pending.old.items + piece_steps piece.entry) }
 {
@@ -63,7 +64,8 @@ fn push_beginning<'a>(
     expr: &'a Expr,
     inside: bool,
 ) -> Result<(), AllocError>
-    ensures text { OnOk result (written.new.items ++ pending_text pending.new.items ≡ written.old.items ++ (spec.expression expr.now inside ++ pending_text pending.old.items)) }
+    ensures text { OnOk result (written.new.items ++ pending_text pending.new.items
+        ≡ written.old.items ++ (spec.expression expr.now inside ++ pending_text pending.old.items)) }
     ensures depth { OnOk result (depth pending.new.items ≤ max (depth pending.old.items) (size-Expr expr.now)) }
     ensures steps { OnOk result (steps pending.new.items < steps pending.old.items + 2 * links expr.now) }
 {
@@ -114,7 +116,8 @@ fn push_text(alloc: Global, written: &mut Vec<u8>, parts: &[Part]) -> Result<(),
 /// A hash in braces.
 #[cycle(expression)]
 fn push_hash(alloc: Global, written: &mut Vec<u8>, pairs: &[(Expr, Expr)]) -> Result<(), AllocError>
-    ensures { OnOk result (written.new.items ≡ written.old.items ++ (123 ∷ (pieces.joined (map spec.inner_pair pairs.now) ++ 125 ∷ []))) }
+    ensures { OnOk result (written.new.items
+        ≡ written.old.items ++ (123 ∷ (pieces.joined (map spec.inner_pair pairs.now) ++ 125 ∷ []))) }
 {
     written.push(b'{')?;
     push_pairs(alloc, written, pairs)?;
@@ -130,7 +133,8 @@ fn push_own(
     name: &Text,
     args: &[Expr],
 ) -> Result<(), AllocError>
-    ensures { OnOk result (written.new.items ≡ written.old.items ++ (name.now ++ pieces.grouped (spec.members (map spec.expression args.now)))) }
+    ensures { OnOk result (written.new.items
+        ≡ written.old.items ++ (name.now ++ pieces.grouped (spec.members (map spec.expression args.now)))) }
 {
     written.extend_from_slice(name.as_bytes())?;
     push_grouped(alloc, written, args)
@@ -139,7 +143,8 @@ fn push_own(
 /// Arguments in parentheses.
 #[cycle(expression)]
 fn push_grouped(alloc: Global, written: &mut Vec<u8>, args: &[Expr]) -> Result<(), AllocError>
-    ensures { OnOk result (written.new.items ≡ written.old.items ++ pieces.grouped (spec.members (map spec.expression args.now))) }
+    ensures { OnOk result (written.new.items ≡ written.old.items ++ pieces.grouped
+        (spec.members (map spec.expression args.now))) }
 {
     written.push(b'(')?;
     push_members(alloc, written, args)?;
@@ -156,7 +161,8 @@ fn push_behind(
     args: &[Expr],
     inside: bool,
 ) -> Result<(), AllocError>
-    ensures { OnOk result (written.new.items ≡ written.old.items ++ spec.behind_receiver name.now (map spec.expression args.now) inside) }
+    ensures { OnOk result (written.new.items ≡ written.old.items ++ spec.behind_receiver name.now
+        (map spec.expression args.now) inside) }
 {
     if name.as_bytes() == b"[]".as_slice() {
         return push_bracketed(alloc, written, args);
@@ -173,7 +179,8 @@ fn push_behind(
 /// Expressions in brackets.
 #[cycle(expression)]
 fn push_bracketed(alloc: Global, written: &mut Vec<u8>, args: &[Expr]) -> Result<(), AllocError>
-    ensures { OnOk result (written.new.items ≡ written.old.items ++ (91 ∷ (spec.members (map spec.expression args.now) ++ 93 ∷ []))) }
+    ensures { OnOk result (written.new.items
+        ≡ written.old.items ++ (91 ∷ (spec.members (map spec.expression args.now) ++ 93 ∷ []))) }
 {
     written.push(b'[')?;
     push_members(alloc, written, args)?;
@@ -190,7 +197,9 @@ fn push_operand(
     args: &[Expr],
     inside: bool,
 ) -> Result<(), AllocError>
-    ensures { OnOk result (written.new.items ≡ written.old.items ++ (32 ∷ (name.now ++ (32 ∷ (spec.members (map spec.expression args.now) ++ spec.right inside))))) }
+    ensures { OnOk result (written.new.items
+        ≡ written.old.items ++ (32 ∷
+        (name.now ++ (32 ∷ (spec.members (map spec.expression args.now) ++ spec.right inside))))) }
 {
     written.push(b' ')?;
     written.extend_from_slice(name.as_bytes())?;
@@ -207,7 +216,8 @@ fn push_method(
     name: &Text,
     args: &[Expr],
 ) -> Result<(), AllocError>
-    ensures { OnOk result (written.new.items ≡ written.old.items ++ (46 ∷ (name.now ++ spec.arguments (map spec.expression args.now)))) }
+    ensures { OnOk result (written.new.items
+        ≡ written.old.items ++ (46 ∷ (name.now ++ spec.arguments (map spec.expression args.now)))) }
 {
     written.push(b'.')?;
     written.extend_from_slice(name.as_bytes())?;

@@ -32,7 +32,9 @@ pub fn push_operator<'a>(
     inside: bool,
 ) -> Result<(), AllocError>
     ensures written { OnOk result (written.new.items ≡ written.old.items ++ operator.now) }
-    ensures text { OnOk result (pending_text pending.new.items ≡ spec.inner last.now ++ (spec.right inside ++ pending_text pending.old.items)) }
+    ensures text { OnOk result
+        (pending_text pending.new.items
+        ≡ spec.inner last.now ++ (spec.right inside ++ pending_text pending.old.items)) }
     ensures depth { OnOk result (depth pending.new.items ≡ max (depth pending.old.items) (size-Expr last.now)) }
     ensures steps { OnOk result (steps pending.new.items ≤ steps pending.old.items + (2 * links last.now + 1)) }
 {
@@ -63,7 +65,9 @@ pub fn begin_last<'a>(
     inside: bool,
 ) -> Result<(), AllocError>
     ensures written { OnOk result (written.new.items ≡ written.old.items ++ spec.left inside) }
-    ensures text { OnOk result (pending_text pending.new.items ≡ operator.now ++ (spec.inner last.now ++ (spec.right inside ++ pending_text pending.old.items))) }
+    ensures text { OnOk result
+        (pending_text pending.new.items
+        ≡ operator.now ++ (spec.inner last.now ++ (spec.right inside ++ pending_text pending.old.items))) }
     ensures depth { OnOk result (depth pending.new.items ≡ max (depth pending.old.items) (size-Expr last.now)) }
     ensures steps { OnOk result (steps pending.new.items ≡ steps pending.old.items + (2 * links last.now + 2)) }
 {
@@ -82,9 +86,14 @@ pub fn begin_both<'a>(
     inside: bool,
 ) -> Result<(), AllocError>
     ensures written { OnOk result (written.new.items ≡ written.old.items ++ spec.left inside) }
-    ensures text { OnOk result (pending_text pending.new.items ≡ spec.inner first.now ++ (operator.now ++ (spec.inner last.now ++ (spec.right inside ++ pending_text pending.old.items)))) }
-    ensures depth { OnOk result (depth pending.new.items ≡ max (max (depth pending.old.items) (size-Expr last.now)) (size-Expr first.now)) }
-    ensures steps { OnOk result (steps pending.new.items ≡ steps pending.old.items + (2 * links last.now + 2) + 2 * links first.now) }
+    ensures text { OnOk result
+        (pending_text pending.new.items
+        ≡ spec.inner first.now ++
+        (operator.now ++ (spec.inner last.now ++ (spec.right inside ++ pending_text pending.old.items)))) }
+    ensures depth { OnOk result (depth pending.new.items ≡ max (max (depth pending.old.items) (size-Expr last.now))
+        (size-Expr first.now)) }
+    ensures steps { OnOk result
+        (steps pending.new.items ≡ steps pending.old.items + (2 * links last.now + 2) + 2 * links first.now) }
 {
     begin_last(written, pending, operator, last, inside)?;
     pending.push(Pending::Operand(first))?;
@@ -101,9 +110,17 @@ pub fn begin_choice<'a>(
     inside: bool,
 ) -> Result<(), AllocError>
     ensures written { OnOk result (written.new.items ≡ written.old.items ++ spec.left inside) }
-    ensures text { OnOk result (pending_text pending.new.items ≡ spec.inner test.now ++ (codes " ? " ++ (spec.inner first.now ++ (codes " : " ++ (spec.inner last.now ++ (spec.right inside ++ pending_text pending.old.items)))))) }
-    ensures depth { OnOk result (depth pending.new.items ≡ max (max (max (depth pending.old.items) (size-Expr last.now)) (size-Expr first.now)) (size-Expr test.now)) }
-    ensures steps { OnOk result (steps pending.new.items ≡ steps pending.old.items + (2 * links last.now + 2) + (2 * links first.now + 2) + 2 * links test.now) }
+    ensures text { OnOk result
+        (pending_text pending.new.items
+        ≡ spec.inner test.now ++
+        (codes " ? " ++ (spec.inner first.now ++
+        (codes " : " ++ (spec.inner last.now ++ (spec.right inside ++ pending_text pending.old.items)))))) }
+    ensures depth { OnOk result
+        (depth pending.new.items
+        ≡ max (max (max (depth pending.old.items) (size-Expr last.now)) (size-Expr first.now)) (size-Expr test.now)) }
+    ensures steps { OnOk result
+        (steps pending.new.items ≡ steps pending.old.items + (2 * links last.now + 2) +
+        (2 * links first.now + 2) + 2 * links test.now) }
 {
     begin_last(written, pending, b" : ", last, inside)?;
     begin_both(written, pending, test, b" ? ", first, false)
@@ -119,8 +136,13 @@ pub fn begin_call<'a>(
     inside: bool,
 ) -> Result<(), AllocError>
     ensures written { OnOk result (written.new.items ≡ written.old.items ++ spec.before_receiver name.now inside) }
-    ensures text { OnOk result (pending_text pending.new.items ≡ spec.inner on.now ++ (spec.behind_receiver name.now (map spec.expression args.now) inside ++ pending_text pending.old.items)) }
-    ensures depth { OnOk result (depth pending.new.items ≡ max (max (depth pending.old.items) (weight-Expr-Array-0 args.now + 1)) (size-Expr on.now)) }
+    ensures text { OnOk result
+        (pending_text pending.new.items
+        ≡ spec.inner on.now ++ (spec.behind_receiver name.now (map spec.expression args.now) inside ++ pending_text
+        pending.old.items)) }
+    ensures depth { OnOk result
+        (depth pending.new.items ≡ max (max (depth pending.old.items) (weight-Expr-Array-0 args.now + 1))
+        (size-Expr on.now)) }
     ensures steps { OnOk result (steps pending.new.items ≡ steps pending.old.items + 1 + 2 * links on.now) }
 {
     push_before(written, name.as_bytes(), inside)?;

@@ -57,7 +57,8 @@ pub fn push_path(alloc: Global, written: &mut Vec<u8>, path: &CPath) -> Result<(
 
 /// What stands before a member of a list: nothing before the first, else a comma.
 pub fn push_comma(written: &mut Vec<u8>, first: bool) -> Result<(), AllocError>
-    ensures { OnOk result (written.new.items ≡ (if first then written.old.items else written.old.items ++ 44 ∷ 32 ∷ [])) }
+    ensures { OnOk result (written.new.items
+        ≡ (if first then written.old.items else written.old.items ++ 44 ∷ 32 ∷ [])) }
 {
     if !first {
         written.extend_from_slice(b", ")?;

@@ -100,7 +100,8 @@ fn push_behind(
     indent: &[u8],
     arms: &[(Expr, Stmts)],
 ) -> Result<(), AllocError>
-    ensures { OnOk result (written.new.items ≡ written.old.items ++ flat_map (spec.statements_behind indent.now) arms.now) }
+    ensures { OnOk result (written.new.items ≡ written.old.items ++ flat_map (spec.statements_behind indent.now)
+        arms.now) }
 {
     'arms: for (condition, body) in arms {
         push_in_row(alloc, written, indent, body.as_slice())?;
@@ -117,7 +118,8 @@ fn push_in_row(
     indent: &[u8],
     statements: &[Stmt],
 ) -> Result<(), AllocError>
-    ensures { OnOk result (written.new.items ≡ written.old.items ++ flat_map (λ x. spec.statement x indent.now) statements.now) }
+    ensures { OnOk result (written.new.items ≡ written.old.items ++ flat_map (λ x. spec.statement x indent.now)
+        statements.now) }
 {
     'statements: for statement in statements {
         push_statement(alloc, written, indent, statement)?;
@@ -133,7 +135,8 @@ fn push_arms(
     indent: &[u8],
     arms: &[(Expr, Stmts)],
 ) -> Result<(), AllocError>
-    ensures { OnOk result (written.new.items ≡ written.old.items ++ spec.statement_arms indent.now (codes "if ") arms.now) }
+    ensures { OnOk result (written.new.items ≡ written.old.items ++ spec.statement_arms indent.now
+        (codes "if ") arms.now) }
 {
     let mut first = true;
     'arms: for (condition, body) in arms {
@@ -163,7 +166,8 @@ fn push_otherwise(
     indent: &[u8],
     statements: &[Stmt],
 ) -> Result<(), AllocError>
-    ensures { OnOk result (written.new.items ≡ written.old.items ++ spec.otherwise indent.now (map spec.statement statements.now)) }
+    ensures { OnOk result (written.new.items ≡ written.old.items ++ spec.otherwise indent.now
+        (map spec.statement statements.now)) }
 {
     if statements.is_empty() {
         return Ok(());
@@ -180,7 +184,8 @@ pub fn push_inside(
     indent: &[u8],
     statements: &[Stmt],
 ) -> Result<(), AllocError>
-    ensures { OnOk result (written.new.items ≡ written.old.items ++ spec.inside indent.now (map spec.statement statements.now)) }
+    ensures { OnOk result (written.new.items ≡ written.old.items ++ spec.inside indent.now
+        (map spec.statement statements.now)) }
 {
     let spaces = deeper(alloc, indent)?;
     written.push(b'\n')?;

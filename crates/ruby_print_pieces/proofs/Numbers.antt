@@ -1,5 +1,6 @@
 -- A printed number is read as the same number, and numbers in range have texts in range.
-use Rattle.std.proofs.Common.{◌≡◌, ℕ, zero, suc, ◌+◌, ◌-◌, ◌*◌, ◌/◌, ◌%◌, ◌<◌, ◌≤◌, ◌^◌, Bool, true, false, not, ◌==◌, List, [], ◌∷◌, ◌++◌, refl, ap, ◌∙◌, arith, ℤ, pos, negsuc, ◌-ℤ◌, if◌then◌else◌, nat_le}
+use Rattle.std.proofs.Common.{◌≡◌, ℕ, zero, suc, ◌+◌, ◌-◌, ◌*◌, ◌/◌, ◌%◌, ◌<◌, ◌≤◌, ◌^◌, Bool, true, false, not, ◌==◌}
+use Rattle.std.proofs.Common.{List, [], ◌∷◌, ◌++◌, refl, ap, ◌∙◌, arith, ℤ, pos, negsuc, ◌-ℤ◌, if◌then◌else◌, nat_le}
 use Rattle.std.specs.Fmt.{signed_decimal, decimal}
 use Rattle.std.proofs.lemmas.Fmt.{decimal_by_steps}
 use Rattle.std.proofs.lemmas.Bool.Decides.{nat_tests}
@@ -32,7 +33,11 @@ Back m ds = (magnitude ds ≡ m) × (unsigned ds ≡ true)
 back : (m : ℕ) → m < 2 ^ 64 → Back m (decimal m)
 back = decimal_by_steps Back
     (λ m h. (digit_value 0 m h ∙ omega arith, digit_unsigned m h))
-    (λ m ds h e. (more_from 0 ds (48 + m % 10) ∙ ap (λ x. next_value x (48 + m % 10)) e.0 ∙ digit_value (m / 10) (m % 10) (omega arith) ∙ omega arith, unsigned-more ds (48 + m % 10) e.1))
+    (λ m ds h e. (
+      more_from 0 ds (48 + m % 10) ∙ ap (λ x. next_value x (48 + m % 10)) e.0
+          ∙ digit_value (m / 10) (m % 10) (omega arith) ∙ omega arith,
+      unsigned-more ds (48 + m % 10) e.1,
+    ))
 
 by_test : (b : Bool) (x y : ℤ) → not b ≡ true → (if b then x else y) ≡ y
 by_test true x y h = cc
@@ -61,14 +66,16 @@ unsigned_in_range : (ds : List ℕ) → unsigned ds ≡ true → magnitude ds < 
 unsigned_in_range [] u h = refl
 unsigned_in_range (b ∷ bs) u h = by (b == 45) u
   where
-    by : (t : Bool) → not t ≡ true → (if t then nat_le (magnitude bs) (2 ^ 63) else nat_le (magnitude (b ∷ bs)) (2 ^ 63 - 1)) ≡ true
+    by : (t : Bool) → not t ≡ true →
+        (if t then nat_le (magnitude bs) (2 ^ 63) else nat_le (magnitude (b ∷ bs)) (2 ^ 63 - 1)) ≡ true
     by true u = cc
     by false u = within (magnitude (b ∷ bs)) (2 ^ 63 - 1) (omega arith)
 
 -- what is printed of a number in range is in range
 pub printed_in_range : (n : ℤ) → IsInRange n → is_in_range (signed_decimal n) ≡ true
 printed_in_range (pos n) h = let b = back n (omega arith) in unsigned_in_range (decimal n) b.1 (omega (arith, b.0))
-printed_in_range (negsuc n) h = let b = back (suc n) (omega arith) in within (magnitude (decimal (suc n))) (2 ^ 63) (omega (arith, b.0))
+printed_in_range (negsuc n) h = let b = back (suc n) (omega arith) in
+    within (magnitude (decimal (suc n))) (2 ^ 63) (omega (arith, b.0))
 
 negative_fits : (m : ℕ) → m ≤ 2 ^ 63 → IsInRange (pos 0 -ℤ pos m)
 negative_fits zero h = omega arith

@@ -32,9 +32,11 @@ heading false called = name space called ∷ []
 
 abbrev pub definition_step : Def-F Placed → Placed
 definition_step (d.Module names xs) indent = name indent (codes "module") ∷ (path space names ++ body indent xs)
-definition_step (d.Class names p xs) indent = name indent (codes "class") ∷ (path space names ++ (parent p ++ body indent xs))
+definition_step (d.Class names p xs) indent =
+    name indent (codes "class") ∷ (path space names ++ (parent p ++ body indent xs))
 definition_step (d.Assign text x) indent = const indent text ∷ value x
-definition_step (d.Method single called params ss) indent = name indent (codes "def") ∷ (heading single called ++ (parameters params ++ body indent (map statement ss)))
+definition_step (d.Method single called params ss) indent =
+    name indent (codes "def") ∷ (heading single called ++ (parameters params ++ body indent (map statement ss)))
 definition_step (d.Include c) indent = name indent (codes "include") ∷ constant space c
 definition_step (d.Readers names) indent = name indent (codes "attr_reader") ∷ listed k.Sym space (map symbol names)
 

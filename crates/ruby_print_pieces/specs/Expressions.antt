@@ -1,5 +1,6 @@
 -- The pieces of a printed expression.
-use Rattle.std.specs.Prelude.{ℕ, Bool, true, false, List, [], ◌∷◌, ◌++◌, Option, Some, None, if◌then◌else◌, codes, bytes_eq}
+use Rattle.std.specs.Prelude.{ℕ, Bool, true, false, List, [], ◌∷◌, ◌++◌, Option, Some, None, if◌then◌else◌, codes}
+use Rattle.std.specs.Prelude.{bytes_eq}
 use Rattle.std.specs.List.{flat_map}
 use Rattle.std.specs.Fmt.{signed_decimal}
 use Rattle.ruby_types.specs.declared.tree.ConstRef.{ConstRef}
@@ -11,7 +12,8 @@ use Rattle.ruby_token.specs.declared.token.Op.TheVariants as op
 use Rattle.ruby_token.specs.declared.token.TokenKind.TheVariants as k
 use Rattle.ruby_print.specs.Pieces.{escaped}
 use Rattle.ruby_print.specs.Expressions.{is_operator}
-use Rattle.ruby_print_pieces.specs.Pieces.{Piece, piece, mark, name, open_paren, close_paren, open_bracket, close_bracket, comma, dot, colons, path, space, op_of}
+use Rattle.ruby_print_pieces.specs.Pieces.{Piece, piece, mark, name, open_paren, close_paren, open_bracket}
+use Rattle.ruby_print_pieces.specs.Pieces.{close_bracket, comma, dot, colons, path, space, op_of}
 
 -- the pieces of an expression, given the white before its first token and whether it stands inside another
 abbrev pub Laid : Type 0
@@ -51,7 +53,8 @@ abbrev pub call_on : Laid → List ℕ → List Laid → Laid
 call_on on called args gap inside =
     if bytes_eq called (codes "[]") then on gap true ++ (open_bracket [] ∷ (members [] args ++ close_bracket ∷ []))
     else (if bytes_eq called (codes "-@") then enclosed (λ g. mark g op.Minus (codes "-") ∷ on space true) gap inside
-    else (if is_operator called then enclosed (λ g. on g true ++ (mark space (op_of called) called ∷ members space args)) gap inside
+    else (if is_operator called then enclosed
+    (λ g. on g true ++ (mark space (op_of called) called ∷ members space args)) gap inside
     else on gap true ++ (dot ∷ name [] called ∷ arguments args)))
 
 abbrev pub call_pieces : Option Laid → List ℕ → List Laid → Laid
@@ -68,19 +71,24 @@ expression_step e.True gap inside = name gap (codes "true") ∷ []
 expression_step e.False gap inside = name gap (codes "false") ∷ []
 expression_step e.SelfRef gap inside = name gap (codes "self") ∷ []
 expression_step (e.Int n) gap inside = piece gap k.Int (signed_decimal n) ∷ []
-expression_step (e.Str parts) gap inside = piece gap k.TextOpen (34 ∷ []) ∷ (flat_map (λ part. part) parts ++ piece [] k.TextClose (34 ∷ []) ∷ [])
+expression_step (e.Str parts) gap inside = piece gap k.TextOpen (34 ∷ []) ∷
+    (flat_map (λ part. part) parts ++ piece [] k.TextClose (34 ∷ []) ∷ [])
 expression_step (e.Sym text) gap inside = piece gap k.Sym (58 ∷ text) ∷ []
 expression_step (e.Local text) gap inside = name gap text ∷ []
 expression_step (e.Ivar text) gap inside = piece gap k.Ivar (64 ∷ text) ∷ []
 expression_step (e.Const c) gap inside = constant gap c
 expression_step (e.Array xs) gap inside = open_bracket gap ∷ (members [] xs ++ close_bracket ∷ [])
-expression_step (e.Hash ps) gap inside = mark gap op.OpenBrace (codes "{") ∷ (pairs ps ++ mark [] op.CloseBrace (codes "}") ∷ [])
+expression_step (e.Hash ps) gap inside = mark gap op.OpenBrace (codes "{") ∷
+    (pairs ps ++ mark [] op.CloseBrace (codes "}") ∷ [])
 expression_step (e.Call on called args) gap inside = call_pieces on called args gap inside
 expression_step (e.Not a) gap inside = enclosed (λ g. mark g op.Not (codes "!") ∷ a [] true) gap inside
-expression_step (e.And a b) gap inside = enclosed (λ g. a g true ++ (mark space op.AndAlso (codes "&&") ∷ b space true)) gap inside
-expression_step (e.Or a b) gap inside = enclosed (λ g. a g true ++ (mark space op.OrElse (codes "||") ∷ b space true)) gap inside
+expression_step (e.And a b) gap inside =
+    enclosed (λ g. a g true ++ (mark space op.AndAlso (codes "&&") ∷ b space true)) gap inside
+expression_step (e.Or a b) gap inside =
+    enclosed (λ g. a g true ++ (mark space op.OrElse (codes "||") ∷ b space true)) gap inside
 expression_step (e.Choose a b c) gap inside =
-    enclosed (λ g. a g true ++ (mark space op.Ask (codes "?") ∷ (b space true ++ (mark space op.Colon (codes ":") ∷ c space true)))) gap inside
+    enclosed (λ g. a g true ++
+    (mark space op.Ask (codes "?") ∷ (b space true ++ (mark space op.Colon (codes ":") ∷ c space true)))) gap inside
 
 abbrev pub part_step : Part-F Laid (List Piece) → List Piece
 part_step (e.Plain text) = piece [] k.TextPiece (flat_map escaped text) ∷ []

@@ -40,19 +40,27 @@ pub data Formed (names : List Name) : (f : Form) → Held f → Type 0 where
   is_const : {c : ConstRef} → IsConstant c → Formed names one (expr.Const c)
   is_array : {xs : List Expr} → Formed names some xs → Formed names one (expr.Array xs)
   is_hash : {ps : List (Expr × Expr)} → Formed names pairs ps → Formed names one (expr.Hash ps)
-  is_call_on_self : {n : List ℕ} {xs : List Expr} → IsMethodName n → Formed names some xs → Formed names one (expr.Call None n xs)
-  is_call : {x : Expr} {n : List ℕ} {xs : List Expr} → Formed names one x → IsMethodName n → Formed names some xs → Formed names one (expr.Call (Some x) n xs)
-  is_index : {x y : Expr} → Formed names one x → Formed names one y → Formed names one (expr.Call (Some x) (codes "[]") (y ∷ []))
+  is_call_on_self : {n : List ℕ} {xs : List Expr} → IsMethodName n → Formed names some xs →
+      Formed names one (expr.Call None n xs)
+  is_call : {x : Expr} {n : List ℕ} {xs : List Expr} → Formed names one x → IsMethodName n → Formed names some xs →
+      Formed names one (expr.Call (Some x) n xs)
+  is_index : {x y : Expr} → Formed names one x → Formed names one y →
+      Formed names one (expr.Call (Some x) (codes "[]") (y ∷ []))
   is_minus : {x : Expr} → Formed names one x → Formed names one (expr.Call (Some x) (codes "-@") [])
-  is_operation_of : {x y : Expr} {n : List ℕ} → Formed names one x → is_operation n ≡ true → Formed names one y → Formed names one (expr.Call (Some x) n (y ∷ []))
+  is_operation_of : {x y : Expr} {n : List ℕ} → Formed names one x → is_operation n ≡ true → Formed names one y →
+      Formed names one (expr.Call (Some x) n (y ∷ []))
   is_not : {x : Expr} → Formed names one x → Formed names one (expr.Not x)
   is_and : {x y : Expr} → Formed names one x → Formed names one y → Formed names one (expr.And x y)
   is_or : {x y : Expr} → Formed names one x → Formed names one y → Formed names one (expr.Or x y)
-  is_choice : {x y z : Expr} → Formed names one x → Formed names one y → Formed names one z → Formed names one (expr.Choose x y z)
+  is_choice : {x y z : Expr} → Formed names one x → Formed names one y → Formed names one z →
+      Formed names one (expr.Choose x y z)
   no_more : Formed names some []
   one_more : {x : Expr} {xs : List Expr} → Formed names one x → Formed names some xs → Formed names some (x ∷ xs)
   no_pairs : Formed names pairs []
-  pair_more : {x y : Expr} {ps : List (Expr × Expr)} → Formed names one x → Formed names one y → Formed names pairs ps → Formed names pairs ((x, y) ∷ ps)
+  pair_more : {x y : Expr} {ps : List (Expr × Expr)} → Formed names one x → Formed names one y →
+      Formed names pairs ps → Formed names pairs ((x, y) ∷ ps)
   no_parts : {b : Bool} → Formed names (parts b) []
-  plain_part : {text : List ℕ} {ps : List Part} → text ≢ [] → IsUtf8 text → Formed names (parts false) ps → Formed names (parts true) (part.Plain text ∷ ps)
-  inside_part : {b : Bool} {x : Expr} {ps : List Part} → Formed names one x → Formed names (parts true) ps → Formed names (parts b) (part.Inside x ∷ ps)
+  plain_part : {text : List ℕ} {ps : List Part} → text ≢ [] → IsUtf8 text → Formed names (parts false) ps →
+      Formed names (parts true) (part.Plain text ∷ ps)
+  inside_part : {b : Bool} {x : Expr} {ps : List Part} → Formed names one x → Formed names (parts true) ps →
+      Formed names (parts b) (part.Inside x ∷ ps)

@@ -49,7 +49,8 @@ FormedParameters before (n ∷ ns) = IsVariableName n × (has before n ≡ false
 -- readers in the body at a path, and what they do
 pub data FormedReaders (path : Path) : List Name → List Deed → Type 0 where
   last_reader : {n : Name} → IsSymbolName n → FormedReaders path (n ∷ []) (deed path (defines false n) ∷ [])
-  reader_more : {n : Name} {ns : List Name} {ds : List Deed} → IsSymbolName n → FormedReaders path ns ds → FormedReaders path (n ∷ ns) (deed path (defines false n) ∷ ds)
+  reader_more : {n : Name} {ns : List Name} {ds : List Deed} → IsSymbolName n → FormedReaders path ns ds →
+      FormedReaders path (n ∷ ns) (deed path (defines false n) ∷ ds)
 
 -- an instance variable may be assigned in a method of this name
 abbrev pub sets_in : Bool → Name → Bool
@@ -65,21 +66,32 @@ Held several_definitions = List Def
 
 -- definitions in the body at a path, and what they do in text order
 pub data FormedDef : Path → (f : Form) → Held f → List Deed → Type 0 where
-  is_module : {path : Path} {names : List Name} {body : List Def} {ds : List Deed} → FormedPath path names → FormedDef (path ++ names) several_definitions body ds →
+  is_module : {path : Path} {names : List Name} {body : List Def} {ds : List Deed} → FormedPath path names →
+      FormedDef (path ++ names) several_definitions body ds →
       FormedDef path definition (def.Module names body) (deed (path ++ names) opens_module ∷ ds)
-  is_class : {path : Path} {names : List Name} {body : List Def} {ds : List Deed} → FormedPath path names → FormedDef (path ++ names) several_definitions body ds →
+  is_class : {path : Path} {names : List Name} {body : List Def} {ds : List Deed} → FormedPath path names →
+      FormedDef (path ++ names) several_definitions body ds →
       FormedDef path definition (def.Class names None body) (deed (path ++ names) opens_class ∷ ds)
-  is_subclass : {path : Path} {names : List Name} {c : ConstRef} {body : List Def} {ds : List Deed} → FormedPath path names → IsConstant c → FormedDef (path ++ names) several_definitions body ds →
-      FormedDef path definition (def.Class names (Some c) body) (deed (path ++ names) opens_class ∷ deed (path ++ names) gives_parent ∷ ds)
-  is_assignment : {path : Path} {n : Name} {x : Expr} → IsConstName n → Formed [] one x → FormedDef path definition (def.Assign n x) (deed (path ++ n ∷ []) assigns ∷ [])
-  is_method : {path : Path} {single : Bool} {n : Name} {params after : List Name} {body : List Stmt} → at_top path ≡ false → IsMethodName n → FormedParameters [] params → FormedStmt (sets_in single n) several params body after →
+  is_subclass : {path : Path} {names : List Name} {c : ConstRef} {body : List Def} {ds : List Deed} →
+      FormedPath path names → IsConstant c → FormedDef (path ++ names) several_definitions body ds →
+      FormedDef path definition (def.Class names (Some c) body)
+      (deed (path ++ names) opens_class ∷ deed (path ++ names) gives_parent ∷ ds)
+  is_assignment : {path : Path} {n : Name} {x : Expr} → IsConstName n → Formed [] one x →
+      FormedDef path definition (def.Assign n x) (deed (path ++ n ∷ []) assigns ∷ [])
+  is_method : {path : Path} {single : Bool} {n : Name} {params after : List Name} {body : List Stmt} →
+      at_top path ≡ false → IsMethodName n → FormedParameters [] params →
+      FormedStmt (sets_in single n) several params body after →
       FormedDef path definition (def.Method single n params body) (deed path (defines single n) ∷ [])
-  is_include : {path : Path} {c : ConstRef} → at_top path ≡ false → IsConstant c → FormedDef path definition (def.Include c) []
-  is_readers : {path : Path} {names : List Name} {ds : List Deed} → at_top path ≡ false → FormedReaders path names ds → FormedDef path definition (def.Readers names) ds
+  is_include : {path : Path} {c : ConstRef} → at_top path ≡ false → IsConstant c →
+      FormedDef path definition (def.Include c) []
+  is_readers : {path : Path} {names : List Name} {ds : List Deed} → at_top path ≡ false →
+      FormedReaders path names ds → FormedDef path definition (def.Readers names) ds
   no_more : {path : Path} → FormedDef path several_definitions [] []
-  one_more : {path : Path} {d : Def} {body : List Def} {ds es : List Deed} → FormedDef path definition d ds → FormedDef path several_definitions body es → FormedDef path several_definitions (d ∷ body) (ds ++ es)
+  one_more : {path : Path} {d : Def} {body : List Def} {ds es : List Deed} → FormedDef path definition d ds →
+      FormedDef path several_definitions body es → FormedDef path several_definitions (d ∷ body) (ds ++ es)
 
--- A tree as texts have it: its names are names, its local variables are known where they stand, and nothing is defined twice.
+-- A tree as texts have it: its names are names, its local variables are known where they stand, and nothing is
+-- defined twice.
 pub record FormedFile (tree : FileTree) : Type 0 where
   pub deeds : List Deed
   pub formed : FormedDef [] several_definitions tree.defs deeds

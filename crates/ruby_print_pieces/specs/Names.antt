@@ -48,5 +48,7 @@ IsInRange (negsuc n) = n < 2 ^ 63
 -- the name of a call with two operands
 abbrev pub is_operation : List ℕ → Bool
 is_operation text =
-    bytes_eq text (codes "*") || bytes_eq text (codes "/") || bytes_eq text (codes "%") || bytes_eq text (codes "+") || bytes_eq text (codes "-")
-    || bytes_eq text (codes "<") || bytes_eq text (codes "<=") || bytes_eq text (codes ">") || bytes_eq text (codes ">=") || bytes_eq text (codes "==")
+    bytes_eq text (codes "*") || bytes_eq text (codes "/") || bytes_eq text (codes "%") || bytes_eq text
+    (codes "+") || bytes_eq text (codes "-")
+    || bytes_eq text (codes "<") || bytes_eq text (codes "<=") || bytes_eq text (codes ">") || bytes_eq text
+    (codes ">=") || bytes_eq text (codes "==")

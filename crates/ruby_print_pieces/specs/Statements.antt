@@ -39,7 +39,8 @@ behind indent a = flat_map (λ x. x indent) a.1 ++ (name space (codes "if") ∷ 
 
 abbrev pub if_pieces : Bool → List (Expr × List Placed) → List Placed → Placed
 if_pieces true as' other indent = flat_map (behind indent) as'
-if_pieces false as' other indent = arms indent (codes "if") as' ++ (otherwise indent other ++ name indent (codes "end") ∷ [])
+if_pieces false as' other indent =
+    arms indent (codes "if") as' ++ (otherwise indent other ++ name indent (codes "end") ∷ [])
 
 abbrev pub value : Expr → List Piece
 value x = mark space op.Assign (codes "=") ∷ alone x

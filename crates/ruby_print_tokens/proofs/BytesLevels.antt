@@ -10,10 +10,13 @@ use Rattle.ruby_types.specs.declared.tree.Expr.TheVariants as v
 use Rattle.ruby_types.specs.declared.tree.Part.TheVariants as p
 use Rattle.ruby_types.specs.declared.tree.Expr.TheOpen.{Expr-F, Part-F}
 use Rattle.ruby_print.specs.Pieces.{escaped, joined, constant_text}
-use Rattle.ruby_print.specs.Expressions.{Printed, operation, members, pair_text, call_text, expression_step, part_step, expression, part}
+use Rattle.ruby_print.specs.Expressions.{Printed, operation, members, pair_text, call_text, expression_step, part_step}
+use Rattle.ruby_print.specs.Expressions.{expression, part}
 
-level : (x : Expr) (l : Expr-F Expr Part) → out-Expr x ≡ l → expression x ≡ expression_step (map-Expr Expr Part Printed (List ℕ) expression part l)
-level x l h = fold_out-Expr Printed (List ℕ) expression_step part_step x ∙ ap (λ y. expression_step (map-Expr Expr Part Printed (List ℕ) expression part y)) h
+level : (x : Expr) (l : Expr-F Expr Part) → out-Expr x ≡ l →
+    expression x ≡ expression_step (map-Expr Expr Part Printed (List ℕ) expression part l)
+level x l h = fold_out-Expr Printed (List ℕ) expression_step part_step x
+    ∙ ap (λ y. expression_step (map-Expr Expr Part Printed (List ℕ) expression part y)) h
 
 at : {x y : Printed} → x ≡ y → (inside : Bool) → x inside ≡ y inside
 at h inside = ap (λ f. f inside) h
@@ -49,15 +52,19 @@ pub printed-Const : (c : ConstRef) (inside : Bool) → expression (v.Const c) in
 printed-Const c inside = at (level _ _ (v.outs-Const c)) inside
 
 pub printed-Str : (ps : List Part) (inside : Bool) → expression (v.Str ps) inside ≡ 34 ∷ (flat_map part ps ++ 34 ∷ [])
-printed-Str ps inside = at (level _ _ (v.outs-Str ps)) inside ∙ ap (λ t. 34 ∷ (t ++ 34 ∷ [])) (flat_map-map (λ t. t) part ps)
+printed-Str ps inside = at (level _ _ (v.outs-Str ps)) inside
+    ∙ ap (λ t. 34 ∷ (t ++ 34 ∷ [])) (flat_map-map (λ t. t) part ps)
 
-pub printed-Array : (xs : List Expr) (inside : Bool) → expression (v.Array xs) inside ≡ 91 ∷ (members (map expression xs) ++ 93 ∷ [])
+pub printed-Array : (xs : List Expr) (inside : Bool) →
+    expression (v.Array xs) inside ≡ 91 ∷ (members (map expression xs) ++ 93 ∷ [])
 printed-Array xs inside = at (level _ _ (v.outs-Array xs)) inside
 
-pub printed-Hash : (ps : List (Expr × Expr)) (inside : Bool) → expression (v.Hash ps) inside ≡ 123 ∷ (joined (map pair_text (map printed_pair ps)) ++ 125 ∷ [])
+pub printed-Hash : (ps : List (Expr × Expr)) (inside : Bool) →
+    expression (v.Hash ps) inside ≡ 123 ∷ (joined (map pair_text (map printed_pair ps)) ++ 125 ∷ [])
 printed-Hash ps inside = at (level _ _ (v.outs-Hash ps)) inside
 
-pub printed-own : (n : List ℕ) (args : List Expr) (inside : Bool) → expression (v.Call None n args) inside ≡ call_text None n (map expression args) inside
+pub printed-own : (n : List ℕ) (args : List Expr) (inside : Bool) → expression (v.Call None n args) inside
+    ≡ call_text None n (map expression args) inside
 printed-own n args inside = at (level _ _ (v.outs-Call None n args)) inside
 
 pub printed-call : (on : Expr) (n : List ℕ) (args : List Expr) (inside : Bool) →
@@ -67,18 +74,24 @@ printed-call on n args inside = at (level _ _ (v.outs-Call (Some on) n args)) in
 pub printed-Not : (a : Expr) (inside : Bool) → expression (v.Not a) inside ≡ operation (33 ∷ expression a true) inside
 printed-Not a inside = at (level _ _ (v.outs-Not a)) inside
 
-pub printed-And : (a b : Expr) (inside : Bool) → expression (v.And a b) inside ≡ operation (expression a true ++ (codes " && " ++ expression b true)) inside
+pub printed-And : (a b : Expr) (inside : Bool) →
+    expression (v.And a b) inside ≡ operation (expression a true ++ (codes " && " ++ expression b true)) inside
 printed-And a b inside = at (level _ _ (v.outs-And a b)) inside
 
-pub printed-Or : (a b : Expr) (inside : Bool) → expression (v.Or a b) inside ≡ operation (expression a true ++ (codes " || " ++ expression b true)) inside
+pub printed-Or : (a b : Expr) (inside : Bool) →
+    expression (v.Or a b) inside ≡ operation (expression a true ++ (codes " || " ++ expression b true)) inside
 printed-Or a b inside = at (level _ _ (v.outs-Or a b)) inside
 
 pub printed-Choose : (a b c : Expr) (inside : Bool) →
-    expression (v.Choose a b c) inside ≡ operation (expression a true ++ (codes " ? " ++ (expression b true ++ (codes " : " ++ expression c true)))) inside
+    expression (v.Choose a b c) inside
+    ≡ operation (expression a true ++ (codes " ? " ++ (expression b true ++ (codes " : " ++ expression c true))))
+    inside
 printed-Choose a b c inside = at (level _ _ (v.outs-Choose a b c)) inside
 
-part_level : (x : Part) (l : Part-F Expr Part) → out-Part x ≡ l → part x ≡ part_step (map-Part Expr Part Printed (List ℕ) expression part l)
-part_level x l h = fold_out-Part Printed (List ℕ) expression_step part_step x ∙ ap (λ y. part_step (map-Part Expr Part Printed (List ℕ) expression part y)) h
+part_level : (x : Part) (l : Part-F Expr Part) → out-Part x ≡ l →
+    part x ≡ part_step (map-Part Expr Part Printed (List ℕ) expression part l)
+part_level x l h = fold_out-Part Printed (List ℕ) expression_step part_step x
+    ∙ ap (λ y. part_step (map-Part Expr Part Printed (List ℕ) expression part y)) h
 
 pub printed-Plain : (t : List ℕ) → part (p.Plain t) ≡ flat_map escaped t
 printed-Plain t = part_level _ _ (p.outs-Plain t)

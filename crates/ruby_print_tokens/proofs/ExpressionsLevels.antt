@@ -21,27 +21,35 @@ abbrev pub infix_body : Laid → Op → List ℕ → Laid → List ℕ → List 
 infix_body a o text b = λ g. a g true ++ (mark space o text ∷ b space true)
 
 abbrev pub choice_body : Laid → Laid → Laid → List ℕ → List Piece
-choice_body a b c = λ g. a g true ++ (mark space op.Ask (codes "?") ∷ (b space true ++ (mark space op.Colon (codes ":") ∷ c space true)))
+choice_body a b c = λ g.
+    a g true ++ (mark space op.Ask (codes "?") ∷ (b space true ++ (mark space op.Colon (codes ":") ∷ c space true)))
 
 abbrev pub laid_pair : Expr × Expr → Laid × Laid
 laid_pair q = (expression q.0, expression q.1)
 
 pub laid-Str : (ps : List Part) (gap : List ℕ) (inside : Bool) →
-    expression (v.Str ps) gap inside ≡ piece gap k.TextOpen (34 ∷ []) ∷ (flat_map part ps ++ piece [] k.TextClose (34 ∷ []) ∷ [])
-laid-Str ps gap inside = pieces_of _ (v.outs-Str ps) gap inside ∙ ap (λ t. piece gap k.TextOpen (34 ∷ []) ∷ (t ++ piece [] k.TextClose (34 ∷ []) ∷ [])) (flat_map-map (λ t. t) part ps)
+    expression (v.Str ps) gap inside ≡ piece gap k.TextOpen (34 ∷ []) ∷
+    (flat_map part ps ++ piece [] k.TextClose (34 ∷ []) ∷ [])
+laid-Str ps gap inside = pieces_of _ (v.outs-Str ps) gap inside
+    ∙ ap (λ t. piece gap k.TextOpen (34 ∷ []) ∷ (t ++ piece [] k.TextClose (34 ∷ []) ∷ []))
+    (flat_map-map (λ t. t) part ps)
 
-pub laid-Array : (xs : List Expr) (gap : List ℕ) (inside : Bool) → expression (v.Array xs) gap inside ≡ open_bracket gap ∷ (members [] (map expression xs) ++ close_bracket ∷ [])
+pub laid-Array : (xs : List Expr) (gap : List ℕ) (inside : Bool) → expression (v.Array xs) gap inside
+    ≡ open_bracket gap ∷ (members [] (map expression xs) ++ close_bracket ∷ [])
 laid-Array xs gap inside = pieces_of _ (v.outs-Array xs) gap inside
 
 pub laid-Hash : (ps : List (Expr × Expr)) (gap : List ℕ) (inside : Bool) →
-    expression (v.Hash ps) gap inside ≡ mark gap op.OpenBrace (codes "{") ∷ (pairs (map laid_pair ps) ++ mark [] op.CloseBrace (codes "}") ∷ [])
+    expression (v.Hash ps) gap inside ≡ mark gap op.OpenBrace (codes "{") ∷
+    (pairs (map laid_pair ps) ++ mark [] op.CloseBrace (codes "}") ∷ [])
 laid-Hash ps gap inside = pieces_of _ (v.outs-Hash ps) gap inside
 
-pub laid-own : (n : List ℕ) (args : List Expr) (gap : List ℕ) (inside : Bool) → expression (v.Call None n args) gap inside ≡ call_pieces None n (map expression args) gap inside
+pub laid-own : (n : List ℕ) (args : List Expr) (gap : List ℕ) (inside : Bool) →
+    expression (v.Call None n args) gap inside ≡ call_pieces None n (map expression args) gap inside
 laid-own n args gap inside = pieces_of _ (v.outs-Call None n args) gap inside
 
 pub laid-call : (on : Expr) (n : List ℕ) (args : List Expr) (gap : List ℕ) (inside : Bool) →
-    expression (v.Call (Some on) n args) gap inside ≡ call_pieces (Some (expression on)) n (map expression args) gap inside
+    expression (v.Call (Some on) n args) gap inside ≡ call_pieces (Some (expression on)) n
+    (map expression args) gap inside
 laid-call on n args gap inside = pieces_of _ (v.outs-Call (Some on) n args) gap inside
 
 pub laid-Nil : (gap : List ℕ) (inside : Bool) → expression v.Nil gap inside ≡ name gap (codes "nil") ∷ []
@@ -56,35 +64,44 @@ laid-False gap inside = pieces_of _ v.outs-False gap inside
 pub laid-SelfRef : (gap : List ℕ) (inside : Bool) → expression v.SelfRef gap inside ≡ name gap (codes "self") ∷ []
 laid-SelfRef gap inside = pieces_of _ v.outs-SelfRef gap inside
 
-pub laid-Int : (n : ℤ) (gap : List ℕ) (inside : Bool) → expression (v.Int n) gap inside ≡ piece gap k.Int (signed_decimal n) ∷ []
+pub laid-Int : (n : ℤ) (gap : List ℕ) (inside : Bool) →
+    expression (v.Int n) gap inside ≡ piece gap k.Int (signed_decimal n) ∷ []
 laid-Int n gap inside = pieces_of _ (v.outs-Int n) gap inside
 
-pub laid-Sym : (n : List ℕ) (gap : List ℕ) (inside : Bool) → expression (v.Sym n) gap inside ≡ piece gap k.Sym (58 ∷ n) ∷ []
+pub laid-Sym : (n : List ℕ) (gap : List ℕ) (inside : Bool) →
+    expression (v.Sym n) gap inside ≡ piece gap k.Sym (58 ∷ n) ∷ []
 laid-Sym n gap inside = pieces_of _ (v.outs-Sym n) gap inside
 
 pub laid-Local : (n : List ℕ) (gap : List ℕ) (inside : Bool) → expression (v.Local n) gap inside ≡ name gap n ∷ []
 laid-Local n gap inside = pieces_of _ (v.outs-Local n) gap inside
 
-pub laid-Ivar : (n : List ℕ) (gap : List ℕ) (inside : Bool) → expression (v.Ivar n) gap inside ≡ piece gap k.Ivar (64 ∷ n) ∷ []
+pub laid-Ivar : (n : List ℕ) (gap : List ℕ) (inside : Bool) → expression (v.Ivar n) gap inside
+    ≡ piece gap k.Ivar (64 ∷ n) ∷ []
 laid-Ivar n gap inside = pieces_of _ (v.outs-Ivar n) gap inside
 
 pub laid-Const : (c : ConstRef) (gap : List ℕ) (inside : Bool) → expression (v.Const c) gap inside ≡ constant gap c
 laid-Const c gap inside = pieces_of _ (v.outs-Const c) gap inside
 
-pub laid-Not : (a : Expr) (gap : List ℕ) (inside : Bool) → expression (v.Not a) gap inside ≡ enclosed (λ g. mark g op.Not (codes "!") ∷ expression a [] true) gap inside
+pub laid-Not : (a : Expr) (gap : List ℕ) (inside : Bool) →
+    expression (v.Not a) gap inside ≡ enclosed (λ g. mark g op.Not (codes "!") ∷ expression a [] true) gap inside
 laid-Not a gap inside = pieces_of _ (v.outs-Not a) gap inside
 
-pub laid-And : (a b : Expr) (gap : List ℕ) (inside : Bool) → expression (v.And a b) gap inside ≡ enclosed (infix_body (expression a) op.AndAlso (codes "&&") (expression b)) gap inside
+pub laid-And : (a b : Expr) (gap : List ℕ) (inside : Bool) → expression (v.And a b) gap inside
+    ≡ enclosed (infix_body (expression a) op.AndAlso (codes "&&") (expression b)) gap inside
 laid-And a b gap inside = pieces_of _ (v.outs-And a b) gap inside
 
-pub laid-Or : (a b : Expr) (gap : List ℕ) (inside : Bool) → expression (v.Or a b) gap inside ≡ enclosed (infix_body (expression a) op.OrElse (codes "||") (expression b)) gap inside
+pub laid-Or : (a b : Expr) (gap : List ℕ) (inside : Bool) → expression (v.Or a b) gap inside
+    ≡ enclosed (infix_body (expression a) op.OrElse (codes "||") (expression b)) gap inside
 laid-Or a b gap inside = pieces_of _ (v.outs-Or a b) gap inside
 
-pub laid-Choose : (a b c : Expr) (gap : List ℕ) (inside : Bool) → expression (v.Choose a b c) gap inside ≡ enclosed (choice_body (expression a) (expression b) (expression c)) gap inside
+pub laid-Choose : (a b c : Expr) (gap : List ℕ) (inside : Bool) → expression (v.Choose a b c) gap inside
+    ≡ enclosed (choice_body (expression a) (expression b) (expression c)) gap inside
 laid-Choose a b c gap inside = pieces_of _ (v.outs-Choose a b c) gap inside
 
 pub part-Plain : (t : List ℕ) → part (p.Plain t) ≡ piece [] k.TextPiece (flat_map escaped t) ∷ []
 part-Plain t = pieces_of_part _ (p.outs-Plain t)
 
-pub part-Inside : (x : Expr) → part (p.Inside x) ≡ piece [] k.InsideOpen (35 ∷ 123 ∷ []) ∷ (expression x [] true ++ piece [] k.InsideClose (125 ∷ []) ∷ [])
+pub part-Inside : (x : Expr) →
+    part (p.Inside x) ≡ piece [] k.InsideOpen (35 ∷ 123 ∷ []) ∷
+    (expression x [] true ++ piece [] k.InsideClose (125 ∷ []) ∷ [])
 part-Inside x = pieces_of_part _ (p.outs-Inside x)

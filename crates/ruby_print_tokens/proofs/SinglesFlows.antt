@@ -1,5 +1,6 @@
 -- How pieces flow one after another.
-use Rattle.std.proofs.Common.{◌≡◌, ℕ, suc, ◌+◌, ◌-◌, slice_index, ◌<◌, Bool, true, false, List, [], ◌∷◌, ◌++◌, length, refl, ap, sym, subst, ◌∙◌, append_assoc, arith, None, ◌==◌}
+use Rattle.std.proofs.Common.{◌≡◌, ℕ, suc, ◌+◌, ◌-◌, slice_index, ◌<◌, Bool, true, false, List, [], ◌∷◌, ◌++◌, length}
+use Rattle.std.proofs.Common.{refl, ap, sym, subst, ◌∙◌, append_assoc, arith, None, ◌==◌}
 use Rattle.std.specs.List.{prefix_len}
 use Rattle.ruby_token.specs.declared.token.TokenKind.{TokenKind}
 use Rattle.ruby_token.specs.declared.opens.Open.{Open}
@@ -12,18 +13,24 @@ use Rattle.ruby_token.specs.State.{state_after, ends_value, after_token, opens_a
 use Rattle.ruby_token.specs.Steps.{lexeme}
 use Rattle.ruby_token.specs.Cut.{is_big}
 use Rattle.ruby_print_pieces.specs.Pieces.{Piece, piece, bytes_of, behind_piece}
-use Rattle.ruby_print_tokens.specs.Flows.{behind_gap, PassesGap, state_behind, Flows, stays, goes, place_behind, IsSpaces, Begins, Ends}
+use Rattle.ruby_print_tokens.specs.Flows.{behind_gap, PassesGap, state_behind, Flows, stays, goes, place_behind}
+use Rattle.ruby_print_tokens.specs.Flows.{IsSpaces, Begins, Ends}
 use Rattle.ruby_print_tokens.proofs.BytesForms.{bytes-append}
 
 -- ---- one after another
 
-joined : (p : List ℕ) (ps qs : List Piece) (rest : List ℕ) → p ++ (bytes_of ps ++ (bytes_of qs ++ rest)) ≡ p ++ (bytes_of (ps ++ qs) ++ rest)
-joined p ps qs rest = ap (λ y. p ++ y) (sym (append_assoc (bytes_of ps) (bytes_of qs) rest) ∙ ap (λ y. y ++ rest) (sym (bytes-append ps qs)))
+joined : (p : List ℕ) (ps qs : List Piece) (rest : List ℕ) → p ++ (bytes_of ps ++ (bytes_of qs ++ rest))
+    ≡ p ++ (bytes_of (ps ++ qs) ++ rest)
+joined p ps qs rest = ap (λ y. p ++ y) (sym (append_assoc (bytes_of ps) (bytes_of qs) rest)
+    ∙ ap (λ y. y ++ rest) (sym (bytes-append ps qs)))
 
-pub append : {rest : List ℕ} (qs : List Piece) {s mid end : State} {n : ℕ} {ps : List Piece} → Flows (bytes_of qs ++ rest) s n ps mid → Flows rest mid (place_behind n ps) qs end → Flows rest s n (ps ++ qs) end
+pub append : {rest : List ℕ} (qs : List Piece) {s mid end : State} {n : ℕ} {ps : List Piece} →
+    Flows (bytes_of qs ++ rest) s n ps mid → Flows rest mid (place_behind n ps) qs end → Flows rest s n (ps ++ qs) end
 append qs stays g = g
 append {rest = rest} qs (goes {s = s} {p = p} {ps = ps} a b c d f) g =
-    goes (subst (PassesGap s p.gap) (joined p.text ps qs rest) a) (subst (λ y. lexeme (behind_gap p.gap s) y ≡ l.Token p.kind (length p.text)) (joined p.text ps qs rest) b) c d (append qs f g)
+    goes (subst (PassesGap s p.gap) (joined p.text ps qs rest) a)
+    (subst (λ y. lexeme (behind_gap p.gap s) y ≡ l.Token p.kind (length p.text)) (joined p.text ps qs rest) b) c
+    d (append qs f g)
 
 -- These pieces are found, and the state is then so.
 pub record Flown (rest : List ℕ) (s : State) (n : ℕ) (ps : List Piece) (P : State → Type 0) : Type 0 where
@@ -34,15 +41,19 @@ pub record Flown (rest : List ℕ) (s : State) (n : ℕ) (ps : List Piece) (P : 
 pub stay : {rest : List ℕ} {s : State} {n : ℕ} {P : State → Type 0} → P s → Flown rest s n [] P
 stay {s = s} h = record { end = s; flows = stays; so = h }
 
-pub and_then : {rest : List ℕ} {s : State} {n : ℕ} {P Q : State → Type 0} (ps qs : List Piece) → Flown (bytes_of qs ++ rest) s n ps P →
+pub and_then : {rest : List ℕ} {s : State} {n : ℕ} {P Q : State → Type 0} (ps qs : List Piece) →
+    Flown (bytes_of qs ++ rest) s n ps P →
     ((mid : State) → P mid → Flown rest mid (place_behind n ps) qs Q) → Flown rest s n (ps ++ qs) Q
 and_then ps qs f g = let h = g f.end f.so in record { end = h.end; flows = append qs f.flows h.flows; so = h.so }
 
-pub so_also : {rest : List ℕ} {s : State} {n : ℕ} {ps : List Piece} {P Q : State → Type 0} → ((end : State) → P end → Q end) → Flown rest s n ps P → Flown rest s n ps Q
+pub so_also : {rest : List ℕ} {s : State} {n : ℕ} {ps : List Piece} {P Q : State → Type 0} →
+    ((end : State) → P end → Q end) → Flown rest s n ps P → Flown rest s n ps Q
 so_also f h = record { end = h.end; flows = h.flows; so = f h.end h.so }
 
-pub one_goes : {rest : List ℕ} {s : State} {n : ℕ} {P : State → Type 0} (p : Piece) (ps : List Piece) → PassesGap s p.gap (p.text ++ (bytes_of ps ++ rest)) →
-    lexeme (behind_gap p.gap s) (p.text ++ (bytes_of ps ++ rest)) ≡ l.Token p.kind (length p.text) → 0 < length p.text → is_big p.kind p.text ≡ false →
+pub one_goes : {rest : List ℕ} {s : State} {n : ℕ} {P : State → Type 0} (p : Piece) (ps : List Piece) →
+    PassesGap s p.gap (p.text ++ (bytes_of ps ++ rest)) →
+    lexeme (behind_gap p.gap s) (p.text ++ (bytes_of ps ++ rest)) ≡ l.Token p.kind (length p.text) →
+    0 < length p.text → is_big p.kind p.text ≡ false →
     Flown rest (state_behind n p s) (behind_piece n p) ps P → Flown rest s n (p ∷ ps) P
 one_goes p ps a b c d h = record { end = h.end; flows = goes a b c d h.flows; so = h.so }
 
@@ -60,7 +71,8 @@ spaces_white : (gap : List ℕ) → IsSpaces gap → Every is_white gap
 spaces_white [] h = tt
 spaces_white (b ∷ bs) h = (rw h.0 refl, spaces_white bs h.1)
 
-pub passes : (s : State) (gap bytes : List ℕ) → IsSpaces gap → text_at s.opens ≡ None → next_passes is_white bytes ≡ false → PassesGap s gap bytes
+pub passes : (s : State) (gap bytes : List ℕ) → IsSpaces gap → text_at s.opens ≡ None →
+    next_passes is_white bytes ≡ false → PassesGap s gap bytes
 unfolding lexeme
 passes s [] bytes h c e = tt
 passes s (b ∷ bs) bytes h c e =
@@ -76,7 +88,8 @@ after_behind : (gap : List ℕ) (s : State) → (behind_gap gap s).after ≡ s.a
 after_behind [] s = refl
 after_behind (b ∷ bs) s = refl
 
-pub same_after : (kind : TokenKind) (text : List ℕ) (m : ℕ) (gap : List ℕ) (s : State) → state_after kind text m (behind_gap gap s) ≡ state_after kind text m s
+pub same_after : (kind : TokenKind) (text : List ℕ) (m : ℕ) (gap : List ℕ) (s : State) →
+    state_after kind text m (behind_gap gap s) ≡ state_after kind text m s
 same_after kind text m [] s = refl
 same_after kind text m (b ∷ bs) s = refl
 
@@ -103,7 +116,8 @@ pub record Ready (s : State) : Type 0 where
   pub no_value : ends_value s.after ≡ false
   pub no_colon : (s.before == 58) ≡ false
 
-colon_behind : (gap : List ℕ) (s : State) → IsSpaces gap → (gap ≡ [] → (s.before == 58) ≡ false) → ((behind_gap gap s).before == 58) ≡ false
+colon_behind : (gap : List ℕ) (s : State) → IsSpaces gap → (gap ≡ [] → (s.before == 58) ≡ false) →
+    ((behind_gap gap s).before == 58) ≡ false
 colon_behind [] s h g = g refl
 colon_behind (b ∷ bs) s h g = rw (last_space b bs h) refl
 
@@ -115,12 +129,17 @@ ready gap s h = record {
 }
 
 -- the first piece of an expression
-pub begin : {rest : List ℕ} {s : State} {n : ℕ} {P : State → Type 0} (gap : List ℕ) (kind : TokenKind) (b : ℕ) (t : List ℕ) (ps : List Piece) → Begins s gap → is_white b ≡ false →
-    ((z : State) → Ready z → lexeme z ((b ∷ t) ++ (bytes_of ps ++ rest)) ≡ l.Token kind (length (b ∷ t))) → is_big kind (b ∷ t) ≡ false →
-    Flown rest (state_after kind (b ∷ t) (n + length gap) s) (behind_piece n (piece gap kind (b ∷ t))) ps P → Flown rest s n (piece gap kind (b ∷ t) ∷ ps) P
+pub begin : {rest : List ℕ} {s : State} {n : ℕ} {P : State → Type 0} (gap : List ℕ) (kind : TokenKind) (b : ℕ)
+    (t : List ℕ) (ps : List Piece) → Begins s gap → is_white b ≡ false →
+    ((z : State) → Ready z → lexeme z ((b ∷ t) ++ (bytes_of ps ++ rest)) ≡ l.Token kind (length (b ∷ t))) →
+    is_big kind (b ∷ t) ≡ false →
+    Flown rest (state_after kind (b ∷ t) (n + length gap) s) (behind_piece n (piece gap kind (b ∷ t))) ps P →
+    Flown rest s n (piece gap kind (b ∷ t) ∷ ps) P
 begin {rest = rest} {s = s} {n = n} {P = P} gap kind b t ps h w f d g =
-    one_goes (piece gap kind (b ∷ t)) ps (passes s gap ((b ∷ t) ++ (bytes_of ps ++ rest)) h.spaces h.in_code w) (f (behind_gap gap s) (ready gap s h)) (omega arith) d
-    (subst (λ z. Flown rest z (behind_piece n (piece gap kind (b ∷ t))) ps P) (sym (same_after kind (b ∷ t) (n + length gap) gap s)) g)
+    one_goes (piece gap kind (b ∷ t)) ps (passes s gap ((b ∷ t) ++ (bytes_of ps ++ rest)) h.spaces h.in_code w)
+    (f (behind_gap gap s) (ready gap s h)) (omega arith) d
+    (subst (λ z. Flown rest z (behind_piece n (piece gap kind (b ∷ t))) ps P)
+    (sym (same_after kind (b ∷ t) (n + length gap) gap s)) g)
 
 -- what a token that stands alone is to be
 pub record Whole (kind : TokenKind) (text : List ℕ) : Type 0 where
@@ -131,8 +150,10 @@ pub record Whole (kind : TokenKind) (text : List ℕ) : Type 0 where
   pub no_colon : (last_of text == 58) ≡ false
 
 -- an expression of one token
-pub alone : (gap : List ℕ) (kind : TokenKind) (b : ℕ) (t : List ℕ) (s : State) (n : ℕ) (rest : List ℕ) → Begins s gap → is_white b ≡ false →
-    ((z : State) → Ready z → lexeme z ((b ∷ t) ++ rest) ≡ l.Token kind (length (b ∷ t))) → Whole kind (b ∷ t) → Flown rest s n (piece gap kind (b ∷ t) ∷ []) (Ends s)
+pub alone : (gap : List ℕ) (kind : TokenKind) (b : ℕ) (t : List ℕ) (s : State) (n : ℕ) (rest : List ℕ) →
+    Begins s gap → is_white b ≡ false →
+    ((z : State) → Ready z → lexeme z ((b ∷ t) ++ rest) ≡ l.Token kind (length (b ∷ t))) → Whole kind (b ∷ t) →
+    Flown rest s n (piece gap kind (b ∷ t) ∷ []) (Ends s)
 alone gap kind b t s n rest h w f k =
     begin gap kind b t [] h w f k.small (stay (record {
       opens = k.opens (n + length gap) s.opens;

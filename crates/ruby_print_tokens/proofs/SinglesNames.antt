@@ -1,5 +1,6 @@
 -- What names begin with, and the names of operators.
-use Rattle.std.proofs.Common.{◌≡◌, ℕ, Bool, true, false, List, [], ◌∷◌, ◌++◌, refl, sym, subst, codes, arith, ◌==◌, ◌||◌}
+use Rattle.std.proofs.Common.{◌≡◌, ℕ, Bool, true, false, List, [], ◌∷◌, ◌++◌, refl, sym, subst, codes, arith, ◌==◌}
+use Rattle.std.proofs.Common.{◌||◌}
 use Rattle.std.specs.Str.{bytes_eq}
 use Rattle.std.proofs.lemmas.Bool.Decides.{nat_tests}
 use Rattle.std.proofs.lemmas.Slice.Eq.{bytes_eq-Decides}
@@ -23,8 +24,10 @@ pub record NameOf (n : List ℕ) : Type 0 where
   pub shape : Tail tail
 
 pub name_of : {n : List ℕ} → IsName n → NameOf n
-name_of (unmarked (plain_name {b = b} {t = t} h e)) = record { first = b; tail = t; whole = refl; lower = h; shape = bare e }
-name_of (suffixed q (plain_name {b = b} {t = t} h e) s) = record { first = b; tail = t ++ q ∷ []; whole = refl; lower = h; shape = marked t q e s }
+name_of (unmarked (plain_name {b = b} {t = t} h e)) =
+    record { first = b; tail = t; whole = refl; lower = h; shape = bare e }
+name_of (suffixed q (plain_name {b = b} {t = t} h e) s) =
+    record { first = b; tail = t ++ q ∷ []; whole = refl; lower = h; shape = marked t q e s }
 
 -- ---- the name of a call behind a dot is no operator
 
@@ -82,7 +85,8 @@ infix_of n h =
     (either _ (bytes_eq n (codes "+"))
     (either _ (bytes_eq n (codes "%"))
     (either (bytes_eq n (codes "*")) (bytes_eq n (codes "/"))
-    (is_it n _ times) (is_it n _ divide)) (is_it n _ modulo)) (is_it n _ plus)) (is_it n _ minus)) (is_it n _ less)) (is_it n _ at_most)) (is_it n _ more)) (is_it n _ at_least)) (is_it n _ same) h
+    (is_it n _ times) (is_it n _ divide)) (is_it n _ modulo)) (is_it n _ plus)) (is_it n _ minus)) (is_it n _ less))
+    (is_it n _ at_most)) (is_it n _ more)) (is_it n _ at_least)) (is_it n _ same) h
 
 pub record IsOperatorCall (n : List ℕ) : Type 0 where
   pub no_index : bytes_eq n (codes "[]") ≡ false

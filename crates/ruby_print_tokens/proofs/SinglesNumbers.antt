@@ -1,5 +1,7 @@
 -- The lexer finds each number that is printed.
-use Rattle.std.proofs.Common.{◌≡◌, ℕ, zero, suc, ◌+◌, ◌/◌, ◌%◌, ◌^◌, ◌<◌, ◌≤◌, Bool, true, false, List, [], ◌∷◌, ◌++◌, length, refl, ap, ◌∙◌, arith, None, ◌==◌, ◌⊎◌, inl, inr, ℤ, pos, negsuc, decimal, not, mod-lt}
+use Rattle.std.proofs.Common.{◌≡◌, ℕ, zero, suc, ◌+◌, ◌/◌, ◌%◌, ◌^◌, ◌<◌, ◌≤◌, Bool, true, false, List, [], ◌∷◌, ◌++◌}
+use Rattle.std.proofs.Common.{length, refl, ap, ◌∙◌, arith, None, ◌==◌, ◌⊎◌, inl, inr, ℤ, pos, negsuc, decimal, not}
+use Rattle.std.proofs.Common.{mod-lt}
 use Rattle.std.specs.Char.{is_ascii_digit, is_ascii_uppercase}
 use Rattle.std.specs.Fmt.{signed_decimal}
 use Rattle.std.proofs.lemmas.Bool.Decides.{nat_tests}
@@ -17,7 +19,8 @@ use Rattle.ruby_print_tokens.proofs.SinglesFlows.{Ready, last_passes, last_more}
 
 -- digits that don't begin with 0
 pub data IsPositive : List ℕ → Type 0 where
-  positive : {b : ℕ} {t : List ℕ} → is_ascii_digit b ≡ true → (b == 48) ≡ false → Every is_ascii_digit t → IsPositive (b ∷ t)
+  positive : {b : ℕ} {t : List ℕ} → is_ascii_digit b ≡ true → (b == 48) ≡ false → Every is_ascii_digit t →
+      IsPositive (b ∷ t)
 
 digit_is : (n : ℕ) → n < 10 → is_ascii_digit (48 + n) ≡ true
 digit_is n h = grind (arith, nat_tests)
@@ -25,7 +28,8 @@ digit_is n h = grind (arith, nat_tests)
 not_zero : (n : ℕ) → 0 < n → (48 + n == 48) ≡ false
 not_zero n h = grind (arith, nat_tests)
 
-every_more : (t : List ℕ) (d : ℕ) → Every is_ascii_digit t → is_ascii_digit d ≡ true → Every is_ascii_digit (t ++ d ∷ [])
+every_more : (t : List ℕ) (d : ℕ) → Every is_ascii_digit t → is_ascii_digit d ≡ true →
+    Every is_ascii_digit (t ++ d ∷ [])
 every_more [] d h e = (e, tt)
 every_more (b ∷ t) d h e = (h.0, every_more t d h.1 e)
 
@@ -109,7 +113,8 @@ pub record NumberOf (text : List ℕ) : Type 0 where
   pub no_assign : (first == 61) ≡ false
   pub no_match : (first == 126) ≡ false
   pub last : (last_of (first ∷ others) == 58) ≡ false
-  pub found : (s : State) (r : List ℕ) → Ready s → next_passes is_word r ≡ false → lexeme s ((first ∷ others) ++ r) ≡ l.Token k.Int (length (first ∷ others))
+  pub found : (s : State) (r : List ℕ) → Ready s → next_passes is_word r ≡ false → lexeme s ((first ∷ others) ++ r)
+      ≡ l.Token k.Int (length (first ∷ others))
 
 digit_dark : (b : ℕ) → is_ascii_digit b ≡ true → is_white b ≡ false
 digit_dark b h = grind (arith, nat_tests)
@@ -137,7 +142,9 @@ zero_lexeme : (s : State) (r : List ℕ) → text_at s.opens ≡ None → lexeme
 unfolding lexeme
 zero_lexeme s r h = rw h refl
 
-positive_lexeme : (s : State) (b : ℕ) (t r : List ℕ) → text_at s.opens ≡ None → is_ascii_digit b ≡ true → (b == 48) ≡ false → Every is_ascii_digit t → next_passes is_word r ≡ false → lexeme s ((b ∷ t) ++ r) ≡ l.Token k.Int (length (b ∷ t))
+positive_lexeme : (s : State) (b : ℕ) (t r : List ℕ) → text_at s.opens ≡ None → is_ascii_digit b ≡ true →
+    (b == 48) ≡ false → Every is_ascii_digit t → next_passes is_word r ≡ false →
+    lexeme s ((b ∷ t) ++ r) ≡ l.Token k.Int (length (b ∷ t))
 unfolding lexeme
 positive_lexeme s b t r c h z e n =
     let x : is_lower b ≡ false = digit_not_lower b h in
@@ -145,14 +152,26 @@ positive_lexeme s b t r c h z e n =
     let d : digits_len (t ++ r) ≡ length t = digits_exact t r e n in
     rw (c, x, y, h, z, d) (ap (λ m. l.Token k.Int m) (omega arith))
 
-negative_lexeme : (s : State) (b : ℕ) (t r : List ℕ) → text_at s.opens ≡ None → ends_value s.after ≡ false → is_ascii_digit b ≡ true → (b == 48) ≡ false → Every is_ascii_digit t → next_passes is_word r ≡ false → lexeme s ((45 ∷ b ∷ t) ++ r) ≡ l.Token k.Int (length (45 ∷ b ∷ t))
+negative_lexeme : (s : State) (b : ℕ) (t r : List ℕ) → text_at s.opens ≡ None → ends_value s.after ≡ false →
+    is_ascii_digit b ≡ true → (b == 48) ≡ false → Every is_ascii_digit t → next_passes is_word r ≡ false →
+    lexeme s ((45 ∷ b ∷ t) ++ r) ≡ l.Token k.Int (length (45 ∷ b ∷ t))
 unfolding lexeme
 negative_lexeme s b t r c v h z e n =
     let d : digits_len (t ++ r) ≡ length t = digits_exact t r e n in
     rw (c, v, h, z, d) (ap (λ m. l.Token k.Int m) (omega arith))
 
 pub number_of : (text : List ℕ) → IsNumber text → NumberOf text
-number_of _ zero_alone = record { first = 48; others = []; whole = refl; dark = refl; no_assign = refl; no_match = refl; last = refl; found = λ s r h n. zero_lexeme s r h.in_code }
+number_of _ zero_alone = record {
+  first = 48;
+  others = [];
+  whole = refl;
+  dark = refl;
+  no_assign = refl;
+  no_match =
+      refl;
+  last = refl;
+  found = λ s r h n. zero_lexeme s r h.in_code;
+}
 number_of _ (counted (positive {b = b} {t = t} h z e)) = record {
   first = b;
   others = t;

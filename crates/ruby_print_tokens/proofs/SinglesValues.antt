@@ -1,5 +1,6 @@
 -- A name that is no word of Ruby's own ends a value.
-use Rattle.std.proofs.Common.{◌≡◌, ℕ, Bool, true, false, List, [], ◌∷◌, length, refl, ap, sym, subst, ◌∙◌, arith, take, take_all, ◌==◌, ◌&&◌, nat_eq, eqb-true}
+use Rattle.std.proofs.Common.{◌≡◌, ℕ, Bool, true, false, List, [], ◌∷◌, length, refl, ap, sym, subst, ◌∙◌, arith, take}
+use Rattle.std.proofs.Common.{take_all, ◌==◌, ◌&&◌, nat_eq, eqb-true}
 use Rattle.std.specs.List.{starts_with, AllByRecursion}
 use Rattle.std.proofs.lemmas.Slice.Eq.{bytes_eq-Decides}
 use Rattle.ruby_token.specs.State.{valueless_words, is_one_of, is_valueless}
@@ -31,5 +32,6 @@ signs = (refl, (refl, (refl, (refl, (refl, (refl, (refl, (refl, (refl, (refl, (r
 pub no_valueless : (n : List ℕ) → name_sign n ≡ 0 → is_valueless n ≡ false
 unfolding is_valueless
 no_valueless n h = cases (is_one_of valueless_words n)
-    (λ t. let g : HasSign n = one_of_them valueless_words n signs t in let i : (name_sign n == 0) ≡ true = rw h refl in cc)
+    (λ t. let g : HasSign n = one_of_them valueless_words n signs t in let i : (name_sign n == 0) ≡ true =
+    rw h refl in cc)
     (λ f. f)

@@ -1,5 +1,6 @@
 -- The lexer finds each name, constant, instance variable and symbol that is printed.
-use Rattle.std.proofs.Common.{◌≡◌, ℕ, Bool, true, false, List, [], ◌∷◌, ◌++◌, length, refl, ap, ◌∙◌, drop, arith, append_assoc, length-append, None, ◌==◌, not}
+use Rattle.std.proofs.Common.{◌≡◌, ℕ, Bool, true, false, List, [], ◌∷◌, ◌++◌, length, refl, ap, ◌∙◌, drop, arith}
+use Rattle.std.proofs.Common.{append_assoc, length-append, None, ◌==◌, not}
 use Rattle.std.specs.List.{prefix_len}
 use Rattle.std.specs.Char.{is_ascii_uppercase}
 use Rattle.std.proofs.lemmas.Bool.Decides.{nat_tests}
@@ -64,7 +65,8 @@ tail_exact r (marked t q e s) n =
 no_label : (r : List ℕ) → next_is 58 r ≡ false → colon_at r ≡ false
 no_label r h = rw h refl
 
-pub name_lexeme : (s : State) (b : ℕ) (t r : List ℕ) → text_at s.opens ≡ None → is_lower b ≡ true → Tail t → EndsName r → lexeme s ((b ∷ t) ++ r) ≡ l.Token k.Name (length (b ∷ t))
+pub name_lexeme : (s : State) (b : ℕ) (t r : List ℕ) → text_at s.opens ≡ None → is_lower b ≡ true → Tail t →
+    EndsName r → lexeme s ((b ∷ t) ++ r) ≡ l.Token k.Name (length (b ∷ t))
 unfolding lexeme
 name_lexeme s b t r c h i n =
     let e : name_len (t ++ r) ≡ length t = tail_exact r i n in
@@ -75,26 +77,31 @@ name_lexeme s b t r c h i n =
 upper_not_lower : (b : ℕ) → is_ascii_uppercase b ≡ true → is_lower b ≡ false
 upper_not_lower b h = grind (arith, nat_tests)
 
-pub const_lexeme : (s : State) (b : ℕ) (t r : List ℕ) → text_at s.opens ≡ None → is_ascii_uppercase b ≡ true → Every is_word t → next_passes is_word r ≡ false → lexeme s ((b ∷ t) ++ r) ≡ l.Token k.Const (length (b ∷ t))
+pub const_lexeme : (s : State) (b : ℕ) (t r : List ℕ) → text_at s.opens ≡ None → is_ascii_uppercase b ≡ true →
+    Every is_word t → next_passes is_word r ≡ false → lexeme s ((b ∷ t) ++ r) ≡ l.Token k.Const (length (b ∷ t))
 unfolding lexeme
 const_lexeme s b t r c h i n =
     let e : prefix_len is_word (t ++ r) ≡ length t = exact_front is_word t r i n in
     let z : is_lower b ≡ false = upper_not_lower b h in
     rw (c, z, h, e) (ap (λ m. l.Token k.Const m) (omega arith))
 
-pub ivar_lexeme : (s : State) (b : ℕ) (t r : List ℕ) → text_at s.opens ≡ None → is_lower b ≡ true → Every is_word t → next_passes is_word r ≡ false → lexeme s ((64 ∷ b ∷ t) ++ r) ≡ l.Token k.Ivar (length (64 ∷ b ∷ t))
+pub ivar_lexeme : (s : State) (b : ℕ) (t r : List ℕ) → text_at s.opens ≡ None → is_lower b ≡ true → Every is_word t →
+    next_passes is_word r ≡ false → lexeme s ((64 ∷ b ∷ t) ++ r) ≡ l.Token k.Ivar (length (64 ∷ b ∷ t))
 unfolding lexeme
 ivar_lexeme s b t r c h i n =
     let e : prefix_len is_word (t ++ r) ≡ length t = exact_front is_word t r i n in
     rw (c, h, e) (ap (λ m. l.Token k.Ivar m) (omega arith))
 
-pub symbol_lexeme : (s : State) (b : ℕ) (t r : List ℕ) → text_at s.opens ≡ None → (s.before == 58) ≡ false → is_lower b ≡ true → Tail t → EndsName r → lexeme s ((58 ∷ b ∷ t) ++ r) ≡ l.Token k.Sym (length (58 ∷ b ∷ t))
+pub symbol_lexeme : (s : State) (b : ℕ) (t r : List ℕ) → text_at s.opens ≡ None → (s.before == 58) ≡ false →
+    is_lower b ≡ true → Tail t → EndsName r → lexeme s ((58 ∷ b ∷ t) ++ r) ≡ l.Token k.Sym (length (58 ∷ b ∷ t))
 unfolding lexeme
 symbol_lexeme s b t r c z h i n =
     let e : name_len (t ++ r) ≡ length t = tail_exact r i n in
     rw (c, z, h, e) (ap (λ m. l.Token k.Sym m) (omega arith))
 
-pub symbol_const_lexeme : (s : State) (b : ℕ) (t r : List ℕ) → text_at s.opens ≡ None → (s.before == 58) ≡ false → is_ascii_uppercase b ≡ true → Every is_word t → next_passes is_word r ≡ false → lexeme s ((58 ∷ b ∷ t) ++ r) ≡ l.Token k.Sym (length (58 ∷ b ∷ t))
+pub symbol_const_lexeme : (s : State) (b : ℕ) (t r : List ℕ) → text_at s.opens ≡ None → (s.before == 58) ≡ false →
+    is_ascii_uppercase b ≡ true → Every is_word t → next_passes is_word r ≡ false →
+    lexeme s ((58 ∷ b ∷ t) ++ r) ≡ l.Token k.Sym (length (58 ∷ b ∷ t))
 unfolding lexeme
 symbol_const_lexeme s b t r c z h i n =
     let e : prefix_len is_word (t ++ r) ≡ length t = exact_front is_word t r i n in
@@ -137,7 +144,8 @@ pub const_last : (b : ℕ) (t : List ℕ) → is_ascii_uppercase b ≡ true → 
 const_last b t h i = not_true _ (last_passes no_colon_byte b t (upper_no_colon b h) (words_no_colon t i))
 
 pub word_last : (c b : ℕ) (t : List ℕ) → is_word b ≡ true → Every is_word t → (last_of (c ∷ b ∷ t) == 58) ≡ false
-word_last c b t h i = ap (λ m. m == 58) (last_more c b t) ∙ not_true _ (last_passes no_colon_byte b t (word_no_colon b h) (words_no_colon t i))
+word_last c b t h i = ap (λ m. m == 58) (last_more c b t)
+    ∙ not_true _ (last_passes no_colon_byte b t (word_no_colon b h) (words_no_colon t i))
 
 pub symbol_last : (c b : ℕ) (t : List ℕ) → is_lower b ≡ true → Tail t → (last_of (c ∷ b ∷ t) == 58) ≡ false
 symbol_last c b t h i = ap (λ m. m == 58) (last_more c b t) ∙ name_last b t h i

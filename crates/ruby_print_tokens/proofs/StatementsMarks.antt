@@ -1,5 +1,6 @@
 -- Runs of one mark, and of a line's end.
-use Rattle.std.proofs.Common.{◌≡◌, ℕ, Bool, true, false, List, [], ◌∷◌, ◌++◌, ◌==◌, not, length, refl, ap, ◌∙◌, arith, codes}
+use Rattle.std.proofs.Common.{◌≡◌, ℕ, Bool, true, false, List, [], ◌∷◌, ◌++◌, ◌==◌, not, length, refl, ap, ◌∙◌, arith}
+use Rattle.std.proofs.Common.{codes}
 use Rattle.std.proofs.lemmas.Bool.Decides.{nat_tests}
 use Rattle.ruby_token.specs.declared.token.Op.{Op}
 use Rattle.ruby_token.specs.declared.token.Op.TheVariants as op
@@ -17,7 +18,8 @@ use Rattle.ruby_token.proofs.Words.{split_if}
 use Rattle.ruby_print_pieces.specs.Pieces.{mark, open_paren, close_paren, comma, dot, colons, newline, space}
 use Rattle.ruby_print_tokens.specs.Flows.{behind_gap, state_behind, IsSpaces}
 use Rattle.ruby_print_tokens.proofs.Utf8.{begins_token, first_begins}
-use Rattle.ruby_print_tokens.proofs.StatementsRuns.{Run, any, no_join, no_value, Code, Fresh, Closed, code_gap, token_flow}
+use Rattle.ruby_print_tokens.proofs.StatementsRuns.{Run, any, no_join, no_value, Code, Fresh, Closed, code_gap}
+use Rattle.ruby_print_tokens.proofs.StatementsRuns.{token_flow}
 
 abbrev pub Anything : List ℕ → Type 0
 Anything bs = Unit {0}
@@ -59,7 +61,8 @@ unfolding operator_at
 colons_at s r = split_if (λ x. x ≡ l.Token (k.Op op.Path) 2) (not (s.before == 58)) _ _ (λ _. refl) (λ _. refl)
 
 -- a mark that opens and closes nothing
-mark_run : {m : ℕ} {gap : List ℕ} {R : List ℕ → Type 0} {m' : ℕ} {ok : After → Bool} (x : Op) (c : ℕ) (cs : List ℕ) → IsSpaces gap → is_white c ≡ false →
+mark_run : {m : ℕ} {gap : List ℕ} {R : List ℕ → Type 0} {m' : ℕ} {ok : After → Bool} (x : Op) (c : ℕ) (cs : List ℕ) →
+    IsSpaces gap → is_white c ≡ false →
     ((s : State) (r : List ℕ) → R r → code_lexeme s c (cs ++ r) ≡ l.Token (k.Op x) (length (c ∷ cs))) →
     ((xs : List Open) → opens_op x xs ≡ xs) → brackets_op x m ≡ m' → ok (after_op x) ≡ true →
     Run (Code m any) R (mark gap x (c ∷ cs) ∷ []) (Code m' ok)
@@ -67,7 +70,12 @@ mark_run {m} {gap = gap} x c cs h w e o b a s i rest p r =
     let p' : Code m any (behind_gap gap s) = code_gap gap p in (
       state_behind i (mark gap x (c ∷ cs)) s,
       token_flow gap (k.Op x) c cs p.opens h w (e (behind_gap gap s) rest r) refl,
-      record { opens = o (behind_gap gap s).opens ∙ p'.opens; brackets = ap (brackets_op x) p'.brackets ∙ b; after = a },
+      record {
+        opens = o (behind_gap gap s).opens ∙ p'.opens;
+        brackets = ap (brackets_op x) p'.brackets
+            ∙ b;
+        after = a;
+      },
     )
 
 pub equals_run : Run (Code 0 any) (NextIs 32) (mark space op.Assign (codes "=") ∷ []) (Code 0 no_value)

@@ -14,7 +14,8 @@ use Rattle.ruby_token.specs.Cut.{is_big}
 use Rattle.ruby_token.proofs.Cuts.{lexeme_by}
 use Rattle.ruby_token.proofs.Words.{exactly}
 use Rattle.ruby_print_pieces.specs.Pieces.{Piece, piece, bytes_of}
-use Rattle.ruby_print_tokens.specs.Flows.{behind_gap, PassesGap, state_behind, Flows, stays, goes, place_behind, IsSpaces}
+use Rattle.ruby_print_tokens.specs.Flows.{behind_gap, PassesGap, state_behind, Flows, stays, goes, place_behind}
+use Rattle.ruby_print_tokens.specs.Flows.{IsSpaces}
 use Rattle.ruby_print_tokens.proofs.Reading.{flows_append}
 
 -- ---- runs
@@ -26,13 +27,15 @@ Run P R ps Q = (s : State) (n : ℕ) (rest : List ℕ) → P s → R rest → (e
 pub nothing : {P : State → Type 0} (R : List ℕ → Type 0) → Run P R [] P
 nothing R s n rest p r = (s, stays, p)
 
-pub behind : {P M Q : State → Type 0} {R R' : List ℕ → Type 0} {ps qs : List Piece} → Run P R ps M → ((rest : List ℕ) → R' rest → R (bytes_of qs ++ rest)) → Run M R' qs Q → Run P R' (ps ++ qs) Q
+pub behind : {P M Q : State → Type 0} {R R' : List ℕ → Type 0} {ps qs : List Piece} → Run P R ps M →
+    ((rest : List ℕ) → R' rest → R (bytes_of qs ++ rest)) → Run M R' qs Q → Run P R' (ps ++ qs) Q
 behind {ps = ps} {qs = qs} f h g s n rest p r =
     let x = f s n (bytes_of qs ++ rest) p (h rest r) in
     let y = g x.0 (place_behind n ps) rest x.2 r in
     (y.0, flows_append x.1 y.1, y.2)
 
-pub weaker : {P P' Q Q' : State → Type 0} {R R' : List ℕ → Type 0} {ps : List Piece} → ((s : State) → P' s → P s) → ((rest : List ℕ) → R' rest → R rest) → ((s : State) → Q s → Q' s) → Run P R ps Q → Run P' R' ps Q'
+pub weaker : {P P' Q Q' : State → Type 0} {R R' : List ℕ → Type 0} {ps : List Piece} → ((s : State) → P' s → P s) →
+    ((rest : List ℕ) → R' rest → R rest) → ((s : State) → Q s → Q' s) → Run P R ps Q → Run P' R' ps Q'
 weaker f g h run s n rest p r = let x = run s n rest (f s p) (g rest r) in (x.0, x.1, h x.0 x.2)
 
 -- ---- states in code
@@ -100,7 +103,8 @@ all_white : (gap : List ℕ) → IsSpaces gap → Every is_white gap
 all_white [] h = tt
 all_white (b ∷ gap) h = (rw h.0 refl, all_white gap h.1)
 
-passes_gap : (s : State) (gap : List ℕ) (c : ℕ) (cs : List ℕ) → s.opens ≡ [] → IsSpaces gap → is_white c ≡ false → PassesGap s gap (c ∷ cs)
+passes_gap : (s : State) (gap : List ℕ) (c : ℕ) (cs : List ℕ) → s.opens ≡ [] → IsSpaces gap → is_white c ≡ false →
+    PassesGap s gap (c ∷ cs)
 passes_gap s [] c cs o h w = tt
 passes_gap s (b ∷ gap) c cs o h w =
     let e : b ≡ 32 = h.0 in
@@ -108,11 +112,13 @@ passes_gap s (b ∷ gap) c cs o h w =
     in_code s b (gap ++ c ∷ cs) o ∙ rw e (ap l.Gap (rw size (omega arith)))
 
 -- one token, in code
-pub token_flow : {s : State} {rest : List ℕ} {n : ℕ} (gap : List ℕ) (kind : TokenKind) (c : ℕ) (cs : List ℕ) → s.opens ≡ [] → IsSpaces gap → is_white c ≡ false →
+pub token_flow : {s : State} {rest : List ℕ} {n : ℕ} (gap : List ℕ) (kind : TokenKind) (c : ℕ) (cs : List ℕ) →
+    s.opens ≡ [] → IsSpaces gap → is_white c ≡ false →
     code_lexeme (behind_gap gap s) c (cs ++ rest) ≡ l.Token kind (length (c ∷ cs)) → is_big kind (c ∷ cs) ≡ false →
     Flows rest s n (piece gap kind (c ∷ cs) ∷ []) (state_behind n (piece gap kind (c ∷ cs)) s)
 token_flow {s} {rest} gap kind c cs o h w e big =
-    goes (passes_gap s gap c (cs ++ rest) o h w) (in_code (behind_gap gap s) c (cs ++ rest) (opens_gap gap o) ∙ e) (omega arith) big stays
+    goes (passes_gap s gap c (cs ++ rest) o h w) (in_code (behind_gap gap s) c (cs ++ rest) (opens_gap gap o) ∙ e)
+    (omega arith) big stays
   where
     opens_gap : (g : List ℕ) → s.opens ≡ [] → (behind_gap g s).opens ≡ []
     opens_gap [] p = p

@@ -1,5 +1,7 @@
 -- Texts that are UTF-8, and those whose first byte begins a token on its line.
-use Rattle.std.proofs.Common.{◌≡◌, ℕ, zero, suc, ◌+◌, ◌<◌, ◌≤◌, Bool, true, false, ◌&&◌, ◌||◌, not, nat_lt, ◌==◌, List, [], ◌∷◌, ◌++◌, length, get_or, IsUtf8, inl, inr, refl, sym, ap₂, subst, arith, append-nil, ltb-true}
+use Rattle.std.proofs.Common.{◌≡◌, ℕ, zero, suc, ◌+◌, ◌<◌, ◌≤◌, Bool, true, false, ◌&&◌, ◌||◌, not, nat_lt, ◌==◌, List}
+use Rattle.std.proofs.Common.{[], ◌∷◌, ◌++◌, length, get_or, IsUtf8, inl, inr, refl, sym, ap₂, subst, arith, append-nil}
+use Rattle.std.proofs.Common.{ltb-true}
 use Rattle.std.specs.Prelude.{◌/◌, ◌%◌, ℤ, pos, negsuc, if◌then◌else◌}
 use Rattle.std.specs.List.{flat_map, AllByRecursion}
 use Rattle.std.specs.Char.{is_ascii_uppercase}
@@ -15,7 +17,8 @@ use Rattle.ruby_types.specs.Paths.{path_text}
 use Rattle.ruby_types.specs.declared.tree.ConstRef.{ConstRef}
 use Rattle.ruby_print.specs.Pieces.{escaped, joined, constant_text, grouped}
 use Rattle.ruby_print_pieces.proofs.Utf8.{utf8_cons}
-use Rattle.ruby_print_pieces.specs.Names.{IsPlainName, plain_name, IsName, unmarked, suffixed, IsConstName, capital, IsSymbolName, of_name, of_constant, EachConst, IsPath}
+use Rattle.ruby_print_pieces.specs.Names.{IsPlainName, plain_name, IsName, unmarked, suffixed, IsConstName, capital}
+use Rattle.ruby_print_pieces.specs.Names.{IsSymbolName, of_name, of_constant, EachConst, IsPath}
 
 -- ---- bytes below 128
 
@@ -54,13 +57,15 @@ plain x h = grind (arith, nat_tests)
 
 escape_high : (xs : List ℕ) → ((k : ℕ) → k < length xs → 128 ≤ get_or xs k 0) → flat_map escaped xs ≡ xs
 escape_high [] h = refl
-escape_high (x ∷ xs) h = ap₂ (λ (a b : List ℕ). a ++ b) (plain x (h 0 (omega arith))) (escape_high xs (λ k below. h (suc k) (omega arith)))
+escape_high (x ∷ xs) h = ap₂ (λ (a b : List ℕ). a ++ b) (plain x (h 0 (omega arith)))
+    (escape_high xs (λ k below. h (suc k) (omega arith)))
 
 one_char : (c : ℕ) → scalar c ≡ true → IsUtf8 (flat_map escaped (encode c))
 one_char c ok = elim (cases_lt c 128) [
   | inl small ↦ rw (encode_ascii c small, append-nil) (utf8_ascii _ (escape_below 128 all_below c small))
   | inr big ↦
-      let high : (k : ℕ) → k < length (encode c) → 128 ≤ get_or (encode c) k 0 = λ k below. elim (cases_lt (get_or (encode c) k 0) 128) [
+      let high : (k : ℕ) → k < length (encode c) → 128 ≤ get_or (encode c) k 0 = λ k below.
+      elim (cases_lt (get_or (encode c) k 0) 128) [
         | inl low ↦ absurd (omega (arith, inside_one c [] (encode c) k (sym (append-nil _)) below low))
         | inr h ↦ h
       ] in
@@ -71,7 +76,8 @@ all_chars : (cs : List ℕ) → scalars cs ≡ true → IsUtf8 (flat_map escaped
 all_chars [] e = IsUtf8-nil
 all_chars (c ∷ cs) e =
     let p = and_parts _ _ e in
-    subst IsUtf8 (sym (flat_map-append escaped (encode c) (encodes cs))) (IsUtf8-append _ _ (one_char c p.0) (all_chars cs p.1))
+    subst IsUtf8 (sym (flat_map-append escaped (encode c) (encodes cs)))
+    (IsUtf8-append _ _ (one_char c p.0) (all_chars cs p.1))
 
 pub utf8_escaped : (text : List ℕ) → IsUtf8 text → IsUtf8 (flat_map escaped text)
 utf8_escaped text u = subst (λ l. IsUtf8 (flat_map escaped l)) u.1.1 (all_chars u.0 u.1.0)
@@ -158,7 +164,9 @@ good_symbol (of_constant h) = good_then 58 _ refl (omega arith) (good_const h).u
 
 more_names : (n : List ℕ) (ns : List (List ℕ)) → IsConstName n → EachConst ns → Good (path_text (n ∷ ns))
 more_names n [] h hs = good_const h
-more_names n (m ∷ ns) h hs = good_append (good_const h) (utf8_cons 58 _ (omega arith) (utf8_cons 58 _ (omega arith) (more_names m ns hs.0 hs.1).utf8))
+more_names n (m ∷ ns) h hs =
+    good_append (good_const h)
+    (utf8_cons 58 _ (omega arith) (utf8_cons 58 _ (omega arith) (more_names m ns hs.0 hs.1).utf8))
 
 pub good_path : (ns : List (List ℕ)) → IsPath ns → Good (path_text ns)
 good_path [] h = absurd h
@@ -176,7 +184,8 @@ good_constant c h = from_top c.top (good_path c.path h)
 pub utf8_joined : (xs : List (List ℕ)) → AllByRecursion IsUtf8 xs → IsUtf8 (joined xs)
 utf8_joined [] h = IsUtf8-nil
 utf8_joined (x ∷ []) h = h.0
-utf8_joined (x ∷ y ∷ ys) h = IsUtf8-append x _ h.0 (utf8_cons 44 _ (omega arith) (utf8_cons 32 _ (omega arith) (utf8_joined (y ∷ ys) h.1)))
+utf8_joined (x ∷ y ∷ ys) h =
+    IsUtf8-append x _ h.0 (utf8_cons 44 _ (omega arith) (utf8_cons 32 _ (omega arith) (utf8_joined (y ∷ ys) h.1)))
 
 pub good_grouped : {t : List ℕ} → IsUtf8 t → Good (grouped t)
 good_grouped {t} u = good_then 40 _ refl (omega arith) (IsUtf8-append t _ u (utf8_ascii (41 ∷ []) refl))

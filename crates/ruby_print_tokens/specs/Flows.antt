@@ -32,7 +32,8 @@ state_behind n p s = state_after p.kind p.text (n + length p.gap) (behind_gap p.
 pub data Flows (rest : List ℕ) : State → ℕ → List Piece → State → Type 0 where
   stays : {s : State} {n : ℕ} → Flows rest s n [] s
   goes : {s end : State} {n : ℕ} {p : Piece} {ps : List Piece} → PassesGap s p.gap (p.text ++ (bytes_of ps ++ rest)) →
-      lexeme (behind_gap p.gap s) (p.text ++ (bytes_of ps ++ rest)) ≡ l.Token p.kind (length p.text) → 0 < length p.text → is_big p.kind p.text ≡ false →
+      lexeme (behind_gap p.gap s) (p.text ++ (bytes_of ps ++ rest)) ≡ l.Token p.kind (length p.text) →
+      0 < length p.text → is_big p.kind p.text ≡ false →
       Flows rest (state_behind n p s) (behind_piece n p) ps end → Flows rest s n (p ∷ ps) end
 
 -- the place behind pieces
@@ -43,7 +44,8 @@ place_behind n (p ∷ ps) = place_behind (behind_piece n p) ps
 -- pieces as tokens, from this place on
 abbrev pub tokens_at : ℕ → List Piece → List Token
 tokens_at n [] = []
-tokens_at n (p ∷ ps) = record { kind = p.kind; from = n + length p.gap; to = behind_piece n p } ∷ tokens_at (behind_piece n p) ps
+tokens_at n (p ∷ ps) = record { kind = p.kind; from = n + length p.gap; to = behind_piece n p } ∷ tokens_at
+    (behind_piece n p) ps
 
 -- ---- expressions
 

@@ -11,5 +11,6 @@ ghost use Rattle.ruby_print_tokens.specs.Flows.{tokens_at};
 
 /// A printed file is cut into the tokens that it was printed of, and its words are theirs.
 pub fn printed_files_are_cut_into_their_pieces()
-    ensures { (tree : FileTree) → FormedFile tree → Lexes (print tree) (done (tokens_at 0 (file_pieces tree))) × (words_of (print tree) (tokens_at 0 (file_pieces tree)) ≡ words_at 0 (file_pieces tree)) }
+    ensures { (tree : FileTree) → FormedFile tree → Lexes (print tree) (done (tokens_at 0 (file_pieces tree)))
+        × (words_of (print tree) (tokens_at 0 (file_pieces tree)) ≡ words_at 0 (file_pieces tree)) }
 {}

@@ -1,5 +1,7 @@
 -- Behind each lexeme UTF-8 goes on, a piece of a text is UTF-8, and no piece stands behind a piece.
-use Rattle.std.proofs.Common.{◌≡◌, inl, inr, ℕ, zero, suc, ◌<◌, ◌≤◌, Bool, true, false, ◌&&◌, ◌==◌, nat_lt, List, [], ◌∷◌, ◌++◌, length, take, Option, Some, None, refl, sym, ap, ◌∙◌, subst, arith, append_assoc, append-nil, length-append, IsUtf8}
+use Rattle.std.proofs.Common.{◌≡◌, inl, inr, ℕ, zero, suc, ◌<◌, ◌≤◌, Bool, true, false, ◌&&◌, ◌==◌, nat_lt, List, []}
+use Rattle.std.proofs.Common.{◌∷◌, ◌++◌, length, take, Option, Some, None, refl, sym, ap, ◌∙◌, subst, arith}
+use Rattle.std.proofs.Common.{append_assoc, append-nil, length-append, IsUtf8}
 use Rattle.std.proofs.lemmas.Bool.Decides.{nat_tests}
 use Rattle.std.proofs.lemmas.Str.{IsUtf8-nil, IsUtf8-from_is_utf8}
 use Rattle.std.specs.Str.{is_utf8}
@@ -11,10 +13,17 @@ use Rattle.ruby_token.specs.declared.token.TokenKind.TheVariants as k
 use Rattle.ruby_token.specs.declared.opens.Quote.{Quote}
 use Rattle.ruby_token.specs.declared.opens.Quote.TheVariants as q
 use Rattle.ruby_token.specs.declared.state.State.{State}
-use Rattle.ruby_token.specs.Bytes.{Every, is_word, is_lower, is_white, not_lf, is_line_end, is_quote, is_suffix, is_single_escape, next_is, next_passes}
+use Rattle.ruby_token.specs.Bytes.{Every, is_word, is_lower, is_white, not_lf, is_line_end, is_quote, is_suffix}
+use Rattle.ruby_token.specs.Bytes.{is_single_escape, next_is, next_passes}
 use Rattle.ruby_token.specs.Opens.{text_at}
 use Rattle.ruby_token.specs.State.{state_after}
-use Rattle.ruby_token.specs.Lexemes.{NameTail, plain, suffixed, Digits, no_more, digit, underscore, Number, zero_alone, number, Ends, last_end, more_ends, white_before, comment_before, ends_line, is_between, Row, first_row, later_row, What, gap, token, InCode, white, comment, dropped, line, lines, name, constant, ivar, label, symbol, symbol_constant, int, negative, quote, inside_close, operator, is_plain, Plain, nothing, byte, hash, escape, Single, nothing_single, byte_single, escape_single, backslash, InDouble, piece, closing, opening, InSingle, piece_single, closing_single, IsIn, Is}
+use Rattle.ruby_token.specs.Lexemes.{NameTail, plain, suffixed, Digits, no_more, digit, underscore, Number, zero_alone}
+use Rattle.ruby_token.specs.Lexemes.{number, Ends, last_end, more_ends, white_before, comment_before, ends_line}
+use Rattle.ruby_token.specs.Lexemes.{is_between, Row, first_row, later_row, What, gap, token, InCode, white, comment}
+use Rattle.ruby_token.specs.Lexemes.{dropped, line, lines, name, constant, ivar, label, symbol, symbol_constant, int}
+use Rattle.ruby_token.specs.Lexemes.{negative, quote, inside_close, operator, is_plain, Plain, nothing, byte, hash}
+use Rattle.ruby_token.specs.Lexemes.{escape, Single, nothing_single, byte_single, escape_single, backslash, InDouble}
+use Rattle.ruby_token.specs.Lexemes.{piece, closing, opening, InSingle, piece_single, closing_single, IsIn, Is}
 use Rattle.ruby_token.specs.Cut.{Longest, utf8_front}
 use Rattle.ruby_token.proofs.Words.{split_if}
 use Rattle.ruby_token.proofs.Cuts.{some_text}
@@ -107,9 +116,11 @@ behind_small (b ∷ t) r h u = behind_small t r h.1 (utf8_behind b (t ++ r) (sma
 behind_ends : (v : Bool) (t r : List ℕ) → Ends v t → IsUtf8 (t ++ r) → IsUtf8 r
 behind_ends v t r (last_end {b = b} h) u = utf8_behind b r (small_end v b h) u
 behind_ends v t r (more_ends {b = b} {t = s} h e) u = behind_ends v s r e (utf8_behind b (s ++ r) (small_end v b h) u)
-behind_ends v t r (white_before {b = b} {t = s} h e) u = behind_ends v s r e (utf8_behind b (s ++ r) (small_between v b h) u)
+behind_ends v t r (white_before {b = b} {t = s} h e) u =
+    behind_ends v s r e (utf8_behind b (s ++ r) (small_between v b h) u)
 behind_ends v t r (comment_before {t = s} c h e) u =
-    behind_ends v (10 ∷ s) r e (utf8_parts (35 ∷ c) 10 (s ++ r) (omega arith) (subst (λ l. IsUtf8 (35 ∷ l)) (append_assoc c (10 ∷ s) r) u)).1
+    behind_ends v (10 ∷ s) r e
+    (utf8_parts (35 ∷ c) 10 (s ++ r) (omega arith) (subst (λ l. IsUtf8 (35 ∷ l)) (append_assoc c (10 ∷ s) r) u)).1
 
 -- no lexeme at this place is longer
 abbrev NoLonger : Option Quote → State → List ℕ → List ℕ → Type 0
@@ -124,27 +135,36 @@ line_feed c h = grind (arith, nat_tests)
 no_line_feed : (c : ℕ) → (c == 10) ≡ false → not_lf c ≡ true
 no_line_feed c h = rw h refl
 
-behind_comment : (s : State) (t r : List ℕ) → Every not_lf t → NoLonger None s (35 ∷ t) r → IsUtf8 (35 ∷ (t ++ r)) → IsUtf8 r
+behind_comment : (s : State) (t r : List ℕ) → Every not_lf t → NoLonger None s (35 ∷ t) r → IsUtf8 (35 ∷ (t ++ r)) →
+    IsUtf8 r
 behind_comment s t [] e l u = IsUtf8-nil
 behind_comment s t (c ∷ r) e l u = by_end (c == 10) refl
   where
     by_end : (v : Bool) → (c == 10) ≡ v → IsUtf8 (c ∷ r)
     by_end true h = (utf8_parts (35 ∷ t) c r (line_feed c h) u).1
     by_end false h = absurd (longer (35 ∷ t) (c ∷ []) (omega arith)
-        (l gap (35 ∷ (t ++ c ∷ [])) r (comment (every_push not_lf t c e (no_line_feed c h))) (ap (λ x. 35 ∷ x) (append_assoc t (c ∷ []) r))))
+        (l gap (35 ∷ (t ++ c ∷ [])) r (comment (every_push not_lf t c e (no_line_feed c h)))
+        (ap (λ x. 35 ∷ x) (append_assoc t (c ∷ []) r))))
 
 behind_code : (s : State) (w : What) (t r : List ℕ) → InCode s w t r → NoLonger None s t r → IsUtf8 (t ++ r) → IsUtf8 r
-behind_code s w _ r (white {b = b} {t = t} h e) l u = behind_small (b ∷ t) r (small_white b h, every_is is_white small small_white t e) u
+behind_code s w _ r (white {b = b} {t = t} h e) l u =
+    behind_small (b ∷ t) r (small_white b h, every_is is_white small small_white t e) u
 behind_code s w _ r (comment {t = t} e) l u = behind_comment s t r e l u
 behind_code s w _ r (dropped h) l u = behind_small (10 ∷ []) r (refl, tt) u
 behind_code s w _ r (line {b = b} h d) l u = behind_small (b ∷ []) r (small_line b h, tt) u
-behind_code s w _ r (lines {b = b} {t = t} h d e) l u = behind_ends _ t r e (utf8_behind b (t ++ r) (smaller b (small_line b h)) u)
+behind_code s w _ r (lines {b = b} {t = t} h d e) l u =
+    behind_ends _ t r e (utf8_behind b (t ++ r) (smaller b (small_line b h)) u)
 behind_code s w _ r (name {b = b} {t = t} h n) l u = behind_small (b ∷ t) r (small_lower b h, small_tail t r n) u
-behind_code s w _ r (constant {b = b} {t = t} h e) l u = behind_small (b ∷ t) r (small_upper b h, every_is is_word small small_word t e) u
-behind_code s w _ r (ivar {b = b} {t = t} h e) l u = behind_small (64 ∷ b ∷ t) r (refl, (small_lower b h, every_is is_word small small_word t e)) u
-behind_code s w _ r (label {b = b} {t = t} h n c) l u = behind_small (b ∷ (t ++ 58 ∷ [])) r (small_lower b h, every_push small t 58 (small_tail t (58 ∷ r) n) refl) u
-behind_code s w _ r (symbol {b = b} {t = t} c h n) l u = behind_small (58 ∷ b ∷ t) r (refl, (small_lower b h, small_tail t r n)) u
-behind_code s w _ r (symbol_constant {b = b} {t = t} c h e) l u = behind_small (58 ∷ b ∷ t) r (refl, (small_upper b h, every_is is_word small small_word t e)) u
+behind_code s w _ r (constant {b = b} {t = t} h e) l u =
+    behind_small (b ∷ t) r (small_upper b h, every_is is_word small small_word t e) u
+behind_code s w _ r (ivar {b = b} {t = t} h e) l u =
+    behind_small (64 ∷ b ∷ t) r (refl, (small_lower b h, every_is is_word small small_word t e)) u
+behind_code s w _ r (label {b = b} {t = t} h n c) l u = behind_small (b ∷ (t ++ 58 ∷ [])) r
+    (small_lower b h, every_push small t 58 (small_tail t (58 ∷ r) n) refl) u
+behind_code s w _ r (symbol {b = b} {t = t} c h n) l u =
+    behind_small (58 ∷ b ∷ t) r (refl, (small_lower b h, small_tail t r n)) u
+behind_code s w _ r (symbol_constant {b = b} {t = t} c h e) l u =
+    behind_small (58 ∷ b ∷ t) r (refl, (small_upper b h, every_is is_word small small_word t e)) u
 behind_code s w t r (int n) l u = behind_small t r (small_number t n) u
 behind_code s w _ r (negative {t = t} v n) l u = behind_small (45 ∷ t) r (refl, small_number t n) u
 behind_code s w _ r (quote {b = b} h) l u = behind_small (b ∷ []) r (small_quote b h, tt) u
@@ -167,7 +187,8 @@ single_append : {t v : List ℕ} → Single t v → (u r : List ℕ) → v ≡ u
 single_append nothing_single u r e p = p
 single_append (byte_single h q) u r e p = byte_single h (single_append q u r e p)
 single_append (escape_single h q) u r e p = escape_single h (single_append q u r e p)
-single_append (backslash {t = t} {r = v} h q) u r e p = backslash (moved (next_passes is_single_escape) t u r v e h) (single_append q u r e p)
+single_append (backslash {t = t} {r = v} h q) u r e p = backslash (moved (next_passes is_single_escape) t u r v e h)
+    (single_append q u r e p)
 
 plain_in : {t r : List ℕ} → InDouble (token k.TextPiece) t r → Plain t r
 plain_in (piece p) = p
@@ -189,31 +210,38 @@ wide_plain c h = grind (arith, nat_tests)
 wide_single : (c : ℕ) → 128 ≤ c → is_single_escape c ≡ false
 wide_single c h = grind (arith, nat_tests)
 
-wide_piece : (o : Option Quote) (s : State) (t r : List ℕ) (c : ℕ) (r' : List ℕ) → Piece o s t r → 128 ≤ c → Piece o s (c ∷ []) r'
+wide_piece : (o : Option Quote) (s : State) (t r : List ℕ) (c : ℕ) (r' : List ℕ) → Piece o s t r → 128 ≤ c →
+    Piece o s (c ∷ []) r'
 wide_piece None s t r c r' i h = elim i [ ]
 wide_piece (Some q.Double) s t r c r' i h = piece (byte (wide_plain c h) nothing)
 wide_piece (Some q.Single) s t r c r' i h = piece_single (byte_single (wide_single c h) nothing_single)
 
-no_piece_behind : (o : Option Quote) (s : State) (t u r : List ℕ) → Piece o s t (u ++ r) → NoLonger o s t (u ++ r) → Piece o s u r → 0 < length u → ⊥
-no_piece_behind o s t u r i l j h = longer t u h (l (token k.TextPiece) (t ++ u) r (joined o s t u r i j) (append_assoc t u r))
+no_piece_behind : (o : Option Quote) (s : State) (t u r : List ℕ) → Piece o s t (u ++ r) → NoLonger o s t (u ++ r) →
+    Piece o s u r → 0 < length u → ⊥
+no_piece_behind o s t u r i l j h =
+    longer t u h (l (token k.TextPiece) (t ++ u) r (joined o s t u r i j) (append_assoc t u r))
 
-piece_parts : (o : Option Quote) (s : State) (t r : List ℕ) → Piece o s t r → NoLonger o s t r → IsUtf8 (t ++ r) → IsUtf8 t × IsUtf8 r
+piece_parts : (o : Option Quote) (s : State) (t r : List ℕ) → Piece o s t r → NoLonger o s t r → IsUtf8 (t ++ r) →
+    IsUtf8 t × IsUtf8 r
 piece_parts o s t [] i l u = (subst (λ x. IsUtf8 x) (append-nil t) u, IsUtf8-nil)
 piece_parts o s t (c ∷ r) i l u = elim (small_or_wide c) [
   | inl h ↦ utf8_parts t c r h u
   | inr h ↦ absurd (no_piece_behind o s t (c ∷ []) r i l (wide_piece o s t (c ∷ r) c r i h) (omega arith))
 ]
 
-behind_double : (s : State) (w : What) (t r : List ℕ) → InDouble w t r → NoLonger (Some q.Double) s t r → IsUtf8 (t ++ r) → IsUtf8 r
+behind_double : (s : State) (w : What) (t r : List ℕ) → InDouble w t r → NoLonger (Some q.Double) s t r →
+    IsUtf8 (t ++ r) → IsUtf8 r
 behind_double s w t r (piece p) l u = (piece_parts (Some q.Double) s t r (piece p) l u).1
 behind_double s w t r closing l u = behind_small (34 ∷ []) r (refl, tt) u
 behind_double s w t r opening l u = behind_small (35 ∷ 123 ∷ []) r (refl, (refl, tt)) u
 
-behind_single : (s : State) (w : What) (t r : List ℕ) → InSingle w t r → NoLonger (Some q.Single) s t r → IsUtf8 (t ++ r) → IsUtf8 r
+behind_single : (s : State) (w : What) (t r : List ℕ) → InSingle w t r → NoLonger (Some q.Single) s t r →
+    IsUtf8 (t ++ r) → IsUtf8 r
 behind_single s w t r (piece_single p) l u = (piece_parts (Some q.Single) s t r (piece_single p) l u).1
 behind_single s w t r closing_single l u = behind_small (39 ∷ []) r (refl, tt) u
 
-behind : (o : Option Quote) (s : State) (w : What) (t r : List ℕ) → IsIn o s w t r → NoLonger o s t r → IsUtf8 (t ++ r) → IsUtf8 r
+behind : (o : Option Quote) (s : State) (w : What) (t r : List ℕ) → IsIn o s w t r → NoLonger o s t r →
+    IsUtf8 (t ++ r) → IsUtf8 r
 behind None s w t r i l u = behind_code s w t r i l u
 behind (Some q.Double) s w t r i l u = behind_double s w t r i l u
 behind (Some q.Single) s w t r i l u = behind_single s w t r i l u
@@ -240,12 +268,17 @@ other_state None s s' t r i = elim i [ ]
 other_state (Some q.Double) s s' t r i = i
 other_state (Some q.Single) s s' t r i = i
 
-pub piece_ends : (s : State) (n : ℕ) (kind : TokenKind) (t r : List ℕ) → kind ≡ k.TextPiece → Longest s (token kind) t r → PieceEnds (state_after kind t n s) r
-piece_ends s n kind t r e = subst (λ x. Longest s (token x) t r → PieceEnds (state_after x t n s) r) (sym e) (λ h. record {
-  inside = no_code_piece (text_at s.opens) s t r h.is;
-  no_piece = λ u v i g. no_piece_behind (text_at s.opens) s t u v (subst (λ x. Piece (text_at s.opens) s t x) (sym g) h.is) (λ w t' r' a b. h.longest w t' r' a (b ∙ ap (λ x. t ++ x) g))
-      (other_state (text_at s.opens) (state_after k.TextPiece t n s) s u v i) (some_text (state_after k.TextPiece t n s) (token k.TextPiece) u v i);
-})
+pub piece_ends : (s : State) (n : ℕ) (kind : TokenKind) (t r : List ℕ) → kind ≡ k.TextPiece →
+    Longest s (token kind) t r → PieceEnds (state_after kind t n s) r
+piece_ends s n kind t r e = subst (λ x. Longest s (token x) t r → PieceEnds (state_after x t n s) r) (sym e)
+    (λ h. record {
+      inside = no_code_piece (text_at s.opens) s t r h.is;
+      no_piece = λ u v i g. no_piece_behind (text_at s.opens) s t u v
+          (subst (λ x. Piece (text_at s.opens) s t x) (sym g) h.is)
+          (λ w t' r' a b. h.longest w t' r' a (b ∙ ap (λ x. t ++ x) g))
+          (other_state (text_at s.opens) (state_after k.TextPiece t n s) s u v i)
+          (some_text (state_after k.TextPiece t n s) (token k.TextPiece) u v i);
+    })
 
 gap_inside : (o : Option Quote) (s : State) (t r : List ℕ) → IsIn o s gap t r → (o ≡ None → ⊥) → ⊥
 gap_inside None s t r i h = h refl
@@ -259,7 +292,8 @@ no_gap s t r bs h p = gap_inside (text_at s.opens) s t r h.is p.inside
 
 up_to_utf8 : (bytes : List ℕ) (n : ℕ) → IsUtf8 (take (valid_len_up_to bytes n) bytes)
 up_to_utf8 bytes zero = IsUtf8-nil
-up_to_utf8 bytes (suc n) = split_if (λ m. IsUtf8 (take m bytes)) (is_utf8 (take (suc n) bytes)) (suc n) (valid_len_up_to bytes n) (λ h. IsUtf8-from_is_utf8 (take (suc n) bytes) h) (λ h. up_to_utf8 bytes n)
+up_to_utf8 bytes (suc n) = split_if (λ m. IsUtf8 (take m bytes)) (is_utf8 (take (suc n) bytes)) (suc n)
+    (valid_len_up_to bytes n) (λ h. IsUtf8-from_is_utf8 (take (suc n) bytes) h) (λ h. up_to_utf8 bytes n)
 
 pub front_utf8 : (bytes : List ℕ) → IsUtf8 (utf8_front bytes)
 unfolding utf8_valid_len

@@ -1,7 +1,9 @@
 -- What a piece of a text stands for is UTF-8 and not empty, as the piece is.
-use Rattle.std.proofs.Common.{◌≡◌, ◌≢◌, ◌⊎◌, inl, inr, ℕ, ◌<◌, ◌≤◌, Bool, true, false, ◌&&◌, ◌||◌, List, [], ◌∷◌, ◌++◌, length, get_or, ◌==◌, refl, sym, ap, ◌∙◌, subst, arith, IsUtf8, cond, ltb}
+use Rattle.std.proofs.Common.{◌≡◌, ◌≢◌, ◌⊎◌, inl, inr, ℕ, ◌<◌, ◌≤◌, Bool, true, false, ◌&&◌, ◌||◌, List, [], ◌∷◌, ◌++◌}
+use Rattle.std.proofs.Common.{length, get_or, ◌==◌, refl, sym, ap, ◌∙◌, subst, arith, IsUtf8, cond, ltb}
 use Rattle.std.proofs.lemmas.Bool.Decides.{nat_tests}
-use Rattle.std.proofs.lemmas.Str.{IsUtf8-append, IsUtf8-encode, IsUtf8-nil, IsUtf8-drop, IsUtf8-take, IsCharBoundary-after_ascii, IsCharBoundary-before_ascii, encode_ascii}
+use Rattle.std.proofs.lemmas.Str.{IsUtf8-append, IsUtf8-encode, IsUtf8-nil, IsUtf8-drop, IsUtf8-take}
+use Rattle.std.proofs.lemmas.Str.{IsCharBoundary-after_ascii, IsCharBoundary-before_ascii, encode_ascii}
 use Rattle.std.proofs.lemmas.Bool.{eqb-true}
 use lib.Utf8.{scalar, scalars, encode, encodes}
 use Rattle.ruby_token.proofs.Words.{split_if, drop_front}
@@ -26,19 +28,22 @@ in_list (c ∷ t) b r = let i = in_list t b r in omega arith
 -- where a byte below 128 stands, both parts are UTF-8
 pub utf8_parts : (t : List ℕ) (b : ℕ) (r : List ℕ) → b < 128 → IsUtf8 (t ++ b ∷ r) → IsUtf8 t × IsUtf8 (b ∷ r)
 utf8_parts t b r h u =
-    let g = IsCharBoundary-before_ascii (t ++ b ∷ r) (length t) (in_list t b r) (subst (λ x. x < 128) (sym (at_byte t b r)) h) in (
+    let g = IsCharBoundary-before_ascii (t ++ b ∷ r) (length t) (in_list t b r)
+    (subst (λ x. x < 128) (sym (at_byte t b r)) h) in (
       subst (λ x. IsUtf8 x) (take_front t (b ∷ r)) (IsUtf8-take (t ++ b ∷ r) (length t) u g),
       subst (λ x. IsUtf8 x) (drop_front t (b ∷ r)) (IsUtf8-drop (t ++ b ∷ r) (length t) u g),
     )
 
 -- ---- escapes
 
--- Text is read so: a backslash stands for itself, or it and the byte behind it stand for a byte below 128, or it stands for nothing.
+-- Text is read so: a backslash stands for itself, or it and the byte behind it stand for a byte below 128, or it
+-- stands for nothing.
 pub record Unescapes (f : List ℕ → List ℕ) : Type 0 where
   pub none : f [] ≡ []
   pub plain : (b : ℕ) (bs : List ℕ) → (b == 92) ≡ false → f (b ∷ bs) ≡ b ∷ f bs
   pub lone : f (92 ∷ []) ≡ 92 ∷ []
-  pub pair : (c : ℕ) (bs : List ℕ) → (f (92 ∷ c ∷ bs) ≡ 92 ∷ f (c ∷ bs)) ⊎ (((d : ℕ) × (d < 128) × (c < 128) × (f (92 ∷ c ∷ bs) ≡ d ∷ f bs)) ⊎ (f (92 ∷ c ∷ bs) ≡ f (c ∷ bs)))
+  pub pair : (c : ℕ) (bs : List ℕ) → (f (92 ∷ c ∷ bs) ≡ 92 ∷ f (c ∷ bs))
+      ⊎ (((d : ℕ) × (d < 128) × (c < 128) × (f (92 ∷ c ∷ bs) ≡ d ∷ f bs)) ⊎ (f (92 ∷ c ∷ bs) ≡ f (c ∷ bs)))
 
 -- bytes from 128 on
 abbrev Wide : List ℕ → Type 0
@@ -63,9 +68,17 @@ wide_encode : (c : ℕ) → 128 ≤ c → WideChar (encode c)
 unfolding encode
 wide_encode c h =
     by_cond WideChar (ltb c 128) (c ∷ []) _ (λ e. absurd (not_small c h e))
-    (by_cond WideChar (ltb c 2048) _ _ (λ e. record { head = _; tail = _; whole = refl; wide = (omega arith, (omega arith, tt)) })
-    (by_cond WideChar (ltb c 65536) _ _ (λ e. record { head = _; tail = _; whole = refl; wide = (omega arith, (omega arith, (omega arith, tt))) })
-    (record { head = _; tail = _; whole = refl; wide = (omega arith, (omega arith, (omega arith, (omega arith, tt)))) })))
+    (by_cond WideChar (ltb c 2048) _ _
+    (λ e. record { head = _; tail = _; whole = refl; wide = (omega arith, (omega arith, tt)) })
+    (by_cond WideChar (ltb c 65536) _ _
+    (λ e. record { head = _; tail = _; whole = refl; wide = (omega arith, (omega arith, (omega arith, tt))) })
+    (record {
+      head = _;
+      tail = _;
+      whole = refl;
+      wide =
+          (omega arith, (omega arith, (omega arith, (omega arith, tt))));
+    })))
 
 no_backslash : (b : ℕ) → 128 ≤ b → (b == 92) ≡ false
 no_backslash b h = grind (arith, nat_tests)
@@ -97,19 +110,25 @@ utf8_chars bs u = subst Chars u.1.1 (chars_of u.0 u.1.0)
 abbrev Both : (List ℕ → List ℕ) → List ℕ → Type 0
 Both f bs = IsUtf8 (f bs) × IsUtf8 (f (92 ∷ bs))
 
-by_pair : (f : List ℕ → List ℕ) → Unescapes f → (c : ℕ) (bs : List ℕ) → IsUtf8 (f (c ∷ bs)) → (c < 128 → IsUtf8 (f bs)) → IsUtf8 (f (92 ∷ c ∷ bs))
+by_pair : (f : List ℕ → List ℕ) → Unescapes f → (c : ℕ) (bs : List ℕ) → IsUtf8 (f (c ∷ bs)) →
+    (c < 128 → IsUtf8 (f bs)) → IsUtf8 (f (92 ∷ c ∷ bs))
 by_pair f u c bs h g = elim (u.pair c bs) [
   | inl e ↦ subst (λ x. IsUtf8 x) (sym e) (utf8_cons 92 (f (c ∷ bs)) (omega arith) h)
   | inr (inl p) ↦ subst (λ x. IsUtf8 x) (sym p.3) (utf8_cons p.0 (f bs) p.1 (g p.2))
   | inr (inr e) ↦ subst (λ x. IsUtf8 x) (sym e) h
 ]
 
-by_first : (f : List ℕ → List ℕ) → Unescapes f → (b : ℕ) (bs : List ℕ) → b < 128 → Both f bs → (v : Bool) → (b == 92) ≡ v → IsUtf8 (f (b ∷ bs))
+by_first : (f : List ℕ → List ℕ) → Unescapes f → (b : ℕ) (bs : List ℕ) → b < 128 → Both f bs → (v : Bool) →
+    (b == 92) ≡ v → IsUtf8 (f (b ∷ bs))
 by_first f u b bs h i true e = subst (λ x. IsUtf8 (f (x ∷ bs))) (sym (eqb-true b 92 e)) i.1
 by_first f u b bs h i false e = subst (λ x. IsUtf8 x) (sym (u.plain b bs e)) (utf8_cons b (f bs) h i.0)
 
 unescaped : (f : List ℕ → List ℕ) → Unescapes f → {bs : List ℕ} → Chars bs → Both f bs
-unescaped f u no_char = (subst (λ x. IsUtf8 x) (sym u.none) IsUtf8-nil, subst (λ x. IsUtf8 x) (sym u.lone) (utf8_byte 92 (omega arith)))
+unescaped f u no_char = (
+  subst (λ x. IsUtf8 x) (sym u.none) IsUtf8-nil,
+  subst (λ x. IsUtf8 x) (sym u.lone)
+      (utf8_byte 92 (omega arith)),
+)
 unescaped f u (ascii {b = b} {bs = bs} h c) =
     let i = unescaped f u c in
     let first = by_first f u b bs h i (b == 92) refl in
@@ -143,17 +162,24 @@ not_byte : (c n : ℕ) → n < 128 → 128 ≤ c → (c == n) ≡ false
 not_byte c n l h = grind (arith, nat_tests)
 
 escaped_wide : (c : ℕ) → 128 ≤ c → escaped c ≡ c
-escaped_wide c h = rw (not_byte c 110 (omega arith) h, not_byte c 116 (omega arith) h, not_byte c 114 (omega arith) h, not_byte c 101 (omega arith) h) refl
+escaped_wide c h = rw (
+  not_byte c 110 (omega arith) h,
+  not_byte c 116 (omega arith) h,
+  not_byte c 114 (omega arith) h,
+  not_byte c 101 (omega arith) h,
+) refl
 
 pub small_or_wide : (c : ℕ) → (c < 128) ⊎ (128 ≤ c)
 small_or_wide c = grind arith
 
 abbrev Pair : (List ℕ → List ℕ) → ℕ → List ℕ → Type 0
-Pair f c bs = (f (92 ∷ c ∷ bs) ≡ 92 ∷ f (c ∷ bs)) ⊎ (((d : ℕ) × (d < 128) × (c < 128) × (f (92 ∷ c ∷ bs) ≡ d ∷ f bs)) ⊎ (f (92 ∷ c ∷ bs) ≡ f (c ∷ bs)))
+Pair f c bs = (f (92 ∷ c ∷ bs) ≡ 92 ∷ f (c ∷ bs))
+    ⊎ (((d : ℕ) × (d < 128) × (c < 128) × (f (92 ∷ c ∷ bs) ≡ d ∷ f bs)) ⊎ (f (92 ∷ c ∷ bs) ≡ f (c ∷ bs)))
 
 pair_double : (c : ℕ) (bs : List ℕ) → (c < 128) ⊎ (128 ≤ c) → Pair double_text c bs
 pair_double c bs (inl l) = inr (inl (escaped c, escaped_small c l, l, refl))
-pair_double c bs (inr l) = inr (inr (ap (λ x. x ∷ double_text bs) (escaped_wide c l) ∙ sym (plain_double c bs (no_backslash c l))))
+pair_double c bs (inr l) =
+    inr (inr (ap (λ x. x ∷ double_text bs) (escaped_wide c l) ∙ sym (plain_double c bs (no_backslash c l))))
 
 quote_small : (c : ℕ) → ((c == 39) || (c == 92)) ≡ true → c < 128
 quote_small c h = grind (arith, nat_tests)
@@ -163,10 +189,22 @@ pair_single c bs true e = inr (inl (c, quote_small c e, quote_small c e, rw e re
 pair_single c bs false e = inl (rw e refl)
 
 double_unescapes : Unescapes double_text
-double_unescapes = record { none = refl; plain = plain_double; lone = refl; pair = λ c bs. pair_double c bs (small_or_wide c) }
+double_unescapes = record {
+  none = refl;
+  plain = plain_double;
+  lone = refl;
+  pair = λ c bs.
+      pair_double c bs (small_or_wide c);
+}
 
 single_unescapes : Unescapes single_text
-single_unescapes = record { none = refl; plain = plain_single; lone = refl; pair = λ c bs. pair_single c bs ((c == 39) || (c == 92)) refl }
+single_unescapes = record {
+  none = refl;
+  plain = plain_single;
+  lone = refl;
+  pair = λ c bs.
+      pair_single c bs ((c == 39) || (c == 92)) refl;
+}
 
 pub text_utf8 : (double : Bool) (text : List ℕ) → IsUtf8 text → IsUtf8 (text_bytes double text)
 text_utf8 true text h = unescaped_utf8 double_text double_unescapes text h

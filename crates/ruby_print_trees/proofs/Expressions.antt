@@ -3,15 +3,21 @@ use Rattle.std.proofs.Common.{Bool, true, false, List, Option, Some, None, refl,
 use Rattle.ruby_types.specs.declared.tree.Expr.{Expr}
 use Rattle.ruby_types.specs.declared.tree.Part.{Part}
 use Rattle.ruby_token.proofs.Words.{split_if}
-use Rattle.ruby_grammar.specs.Signs.{Level, units, products, sums, comparisons, equalities, conjunctions, disjunctions, has}
+use Rattle.ruby_grammar.specs.Signs.{Level, units, products, sums, comparisons, equalities, conjunctions, disjunctions}
+use Rattle.ruby_grammar.specs.Signs.{has}
 use Rattle.ruby_grammar.specs.Marks.{Mark}
-use Rattle.ruby_grammar.specs.Rules.{Name, Scope, path_rest, constant, expression, choice_rest, operators, more_operators, unary, postfix, more_postfix, primary, name_rest, perhaps_arguments, members, more_members, pairs, more_pairs, pair, text_parts}
+use Rattle.ruby_grammar.specs.Rules.{Name, Scope, path_rest, constant, expression, choice_rest, operators}
+use Rattle.ruby_grammar.specs.Rules.{more_operators, unary, postfix, more_postfix, primary, name_rest}
+use Rattle.ruby_grammar.specs.Rules.{perhaps_arguments, members, more_members, pairs, more_pairs, pair, text_parts}
 use Rattle.ruby_grammar.specs.Expressions as e
 use Rattle.ruby_grammar.specs.Values.{text_bytes}
 use Rattle.ruby_print_pieces.specs.Formed as f
 use Rattle.ruby_print_trees.proofs.Meaning.{Fine, EachFine, Parts}
-use Rattle.ruby_print_trees.proofs.Lists.{opened, opened_then, no_members, member_more, members_all, no_pairs, pair_more, pairs_all, no_parts, inside_more, plain_more, parts_all, no_plain_before, path_push}
-use Rattle.ruby_print_trees.proofs.Words.{name_of, const_of, ivar_of, label_of, symbol_of, number_of_word, piece_of, operation_of}
+use Rattle.ruby_print_trees.proofs.Lists.{opened, opened_then, no_members, member_more, members_all, no_pairs}
+use Rattle.ruby_print_trees.proofs.Lists.{pair_more, pairs_all, no_parts, inside_more, plain_more, parts_all}
+use Rattle.ruby_print_trees.proofs.Lists.{no_plain_before, path_push}
+use Rattle.ruby_print_trees.proofs.Words.{name_of, const_of, ivar_of, label_of, symbol_of, number_of_word, piece_of}
+use Rattle.ruby_print_trees.proofs.Words.{operation_of}
 
 -- ---- constants
 
@@ -53,17 +59,26 @@ fine_operators disjunctions here = (λ a x n b h y n' b' g. g h, tt)
 
 pub fine_more_operators : (level : Level) (here : Scope) (x : Expr) → EachFine (more_operators level here x)
 fine_more_operators units here x = (λ a i. i, tt)
-fine_more_operators products here x = (λ a w t s b y n c h z n' c' g i. g (operation_of products w here.names x y t s i h), (λ a i. i, tt))
-fine_more_operators sums here x = (λ a w t s b y n c h z n' c' g i. g (operation_of sums w here.names x y t s i h), (λ a i. i, tt))
-fine_more_operators comparisons here x = (λ a w t s b y n c h z n' c' g i. g (operation_of comparisons w here.names x y t s i h), (λ a i. i, tt))
-fine_more_operators equalities here x = (λ a w t s b y n c h i. operation_of equalities w here.names x y t s i h, (λ a i. i, tt))
-fine_more_operators conjunctions here x = (λ a w t s b y n c h z n' c' g i. g (operation_of conjunctions w here.names x y t s i h), (λ a i. i, tt))
-fine_more_operators disjunctions here x = (λ a w t s b y n c h z n' c' g i. g (operation_of disjunctions w here.names x y t s i h), (λ a i. i, tt))
+fine_more_operators products here x =
+    (λ a w t s b y n c h z n' c' g i. g (operation_of products w here.names x y t s i h), (λ a i. i, tt))
+fine_more_operators sums here x = (
+  λ a w t s b y n c h z n' c' g i. g (operation_of sums w here.names x y t s i h),
+  (λ a i. i, tt),
+)
+fine_more_operators comparisons here x =
+    (λ a w t s b y n c h z n' c' g i. g (operation_of comparisons w here.names x y t s i h), (λ a i. i, tt))
+fine_more_operators equalities here x =
+    (λ a w t s b y n c h i. operation_of equalities w here.names x y t s i h, (λ a i. i, tt))
+fine_more_operators conjunctions here x =
+    (λ a w t s b y n c h z n' c' g i. g (operation_of conjunctions w here.names x y t s i h), (λ a i. i, tt))
+fine_more_operators disjunctions here x =
+    (λ a w t s b y n c h z n' c' g i. g (operation_of disjunctions w here.names x y t s i h), (λ a i. i, tt))
 
 pub fine_unary : (here : Scope) → EachFine (unary here)
 fine_unary here =
     opened_then (unary here) here.levels (e.not_from here) _ (λ n a w t s b y m c h. f.is_not h)
-    (opened_then (unary here) here.levels (e.minus_from here) _ (λ n a w t s b y m c h. f.is_minus h) (λ a y m c h. h, tt))
+    (opened_then (unary here) here.levels (e.minus_from here) _ (λ n a w t s b y m c h. f.is_minus h)
+    (λ a y m c h. h, tt))
 
 -- ---- primaries, and what stands behind them
 
@@ -73,7 +88,8 @@ fine_postfix here = (λ a x n b h y n' b' g. g h, tt)
 pub fine_more_postfix : (here : Scope) (x : Expr) → EachFine (more_postfix here x)
 fine_more_postfix here x = (
   λ a w t s b w' t' s' b' xs n c h y n' c' g i. g (f.is_call i (name_of w' t' s') h),
-  opened_then (more_postfix here x) here.levels (e.index_from here x) _ (λ n a w t s b y m c h w' t' s' b' z m' c' g i. g (f.is_index i h)) (λ a i. i, tt),
+  opened_then (more_postfix here x) here.levels (e.index_from here x) _
+      (λ n a w t s b y m c h w' t' s' b' z m' c' g i. g (f.is_index i h)) (λ a i. i, tt),
 )
 
 pub fine_primary : (here : Scope) → EachFine (primary here)
@@ -97,8 +113,10 @@ fine_primary here = (
                   λ a w t s b. f.is_ivar (ivar_of w t s),
                   (
                     λ a y n c h. f.is_const h.0,
-                    opened_then (primary here) here.levels (e.array_from here) _ (λ n a w t s b xs m c g w' t' s' b'. f.is_array (g (no_members here.names)))
-                        (opened_then (primary here) here.levels (e.hash_from here) _ (λ n a w t s b ps m c g w' t' s' b'. f.is_hash (g (no_pairs here.names)))
+                    opened_then (primary here) here.levels (e.array_from here) _
+                        (λ n a w t s b xs m c g w' t' s' b'. f.is_array (g (no_members here.names)))
+                        (opened_then (primary here) here.levels (e.hash_from here) _
+                        (λ n a w t s b ps m c g w' t' s' b'. f.is_hash (g (no_pairs here.names)))
                         (opened (primary here) here.levels (e.group_from here) (λ n a w t s b y m c h w' t' s' b'. h))),
                   ),
                 ),
@@ -113,22 +131,33 @@ fine_primary here = (
 
 pub fine_name : (here : Scope) (name : Name) → EachFine (name_rest here name)
 fine_name here name =
-    opened_then (name_rest here name) here.levels (e.call_from here name) _ (λ n a w t s b xs m c g w' t' s' b' i. f.is_call_on_self i (g (no_members here.names)))
-    (λ a i. split_if (λ x. f.Formed here.names f.one x) (has here.names name) _ _ (λ h. f.is_local i h) (λ h. f.is_call_on_self i f.no_more), tt)
+    opened_then (name_rest here name) here.levels (e.call_from here name) _
+    (λ n a w t s b xs m c g w' t' s' b' i. f.is_call_on_self i (g (no_members here.names))) (
+      λ a i. split_if (λ x. f.Formed here.names f.one x) (has here.names name) _ _ (λ h. f.is_local i h)
+          (λ h. f.is_call_on_self i f.no_more),
+      tt,
+    )
 
 pub fine_arguments : (here : Scope) → EachFine (perhaps_arguments here)
-fine_arguments here = opened_then (perhaps_arguments here) here.levels (e.arguments_from here) _ (λ n a w t s b xs m c g w' t' s' b'. g (no_members here.names)) (λ a. f.no_more, tt)
+fine_arguments here = opened_then (perhaps_arguments here) here.levels (e.arguments_from here) _
+    (λ n a w t s b xs m c g w' t' s' b'. g (no_members here.names)) (λ a. f.no_more, tt)
 
 -- ---- lists
 
 pub fine_members : (here : Scope) (xs : List Expr) → EachFine (members here xs)
-fine_members here xs = (λ a x n c h ys n' c' g i. g (member_more here.names xs x i h), (λ a i. members_all here.names xs i, tt))
+fine_members here xs = (
+  λ a x n c h ys n' c' g i. g (member_more here.names xs x i h),
+  (λ a i. members_all here.names xs i, tt),
+)
 
 pub fine_more_members : (here : Scope) (xs : List Expr) → EachFine (more_members here xs)
 fine_more_members here xs = (λ a w t s b ys n c g i. g i, (λ a i. members_all here.names xs i, tt))
 
 pub fine_pairs : (here : Scope) (ps : List (Expr × Expr)) → EachFine (pairs here ps)
-fine_pairs here ps = (λ a p n c h qs n' c' g i. g (pair_more here.names ps p i h), (λ a i. pairs_all here.names ps i, tt))
+fine_pairs here ps = (
+  λ a p n c h qs n' c' g i. g (pair_more here.names ps p i h),
+  (λ a i. pairs_all here.names ps i, tt),
+)
 
 pub fine_more_pairs : (here : Scope) (ps : List (Expr × Expr)) → EachFine (more_pairs here ps)
 fine_more_pairs here ps = (λ a w t s b qs n c g i. g i, (λ a i. pairs_all here.names ps i, tt))
@@ -138,7 +167,10 @@ fine_pair here = (λ a w t s b y n c h. (f.is_symbol (label_of w t s), h), (λ a
 
 pub fine_parts : (here : Scope) (double : Bool) (ps : List Part) → EachFine (text_parts here double ps)
 fine_parts here double ps = (
-  λ a w t s b qs n c g plain i p. g true (plain_more here.names ps (text_bytes double w.text) (subst (λ v. Parts here.names v ps) (no_plain_before plain a w p b t) i) (piece_of w t s double)) t,
-  opened_then (text_parts here double ps) here.levels (e.inside_from here double ps) _ (λ n a w t s b x m c h w' t' s' b' qs m' c' g plain i p. g false (inside_more here.names plain ps x i h) tt)
+  λ a w t s b qs n c g plain i p.
+      g true (plain_more here.names ps (text_bytes double w.text)
+      (subst (λ v. Parts here.names v ps) (no_plain_before plain a w p b t) i) (piece_of w t s double)) t,
+  opened_then (text_parts here double ps) here.levels (e.inside_from here double ps) _
+      (λ n a w t s b x m c h w' t' s' b' qs m' c' g plain i p. g false (inside_more here.names plain ps x i h) tt)
       (λ a plain i p. parts_all here.names plain ps i, tt),
 )

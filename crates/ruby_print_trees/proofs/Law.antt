@@ -4,7 +4,13 @@ use Rattle.ruby_types.specs.declared.tree.FileTree.{FileTree}
 use Rattle.ruby_token.specs.Cut.{done}
 use Rattle.descent.specs.Grammar.{Prod, Item, word, marked, Among, Clear}
 use Rattle.ruby_grammar.specs.Marks.{Mark, clash, clashes_any}
-use Rattle.ruby_grammar.specs.Rules.{ruby, Sort, Rule, file, definitions, more_definitions, definition, path_rest, parent, constant, heading, parameter_list, parameters, more_parameters, more_readers, statements, more_statements, statement, simple_statement, condition_behind, then_or_line, perhaps_line, arms_rest, perhaps_expression, expression, choice_rest, operators, more_operators, unary, postfix, more_postfix, primary, name_rest, perhaps_arguments, members, more_members, pairs, more_pairs, pair, text_parts}
+use Rattle.ruby_grammar.specs.Rules.{ruby, Sort, Rule, file, definitions, more_definitions, definition, path_rest}
+use Rattle.ruby_grammar.specs.Rules.{parent, constant, heading, parameter_list, parameters, more_parameters}
+use Rattle.ruby_grammar.specs.Rules.{more_readers, statements, more_statements, statement, simple_statement}
+use Rattle.ruby_grammar.specs.Rules.{condition_behind, then_or_line, perhaps_line, arms_rest, perhaps_expression}
+use Rattle.ruby_grammar.specs.Rules.{expression, choice_rest, operators, more_operators, unary, postfix, more_postfix}
+use Rattle.ruby_grammar.specs.Rules.{primary, name_rest, perhaps_arguments, members, more_members, pairs, more_pairs}
+use Rattle.ruby_grammar.specs.Rules.{pair, text_parts}
 use Rattle.ruby_grammar.specs.Language.{forms, ruby_grammar}
 use Rattle.ruby_grammar.specs.Faults.{IsText}
 use Rattle.ruby_grammar.proofs.Tools.{each_among}
@@ -79,6 +85,7 @@ pub formed_text : (bytes : List ℕ) (tree : FileTree) → IsText bytes tree →
 formed_text bytes tree t = record {
   deeds = deeds_in t.spelled.items;
   formed = serves fine t.spelled.says (λ x n. FormedDef [] several_definitions x.defs n) [] None
-      (subst (λ l. SoundWords None l) (sym t.spelled.spelled) (sound_words bytes (done t.tokens) t.lexed)) (λ y n b h. h refl);
+      (subst (λ l. SoundWords None l) (sym t.spelled.spelled) (sound_words bytes (done t.tokens) t.lexed))
+      (λ y n b h. h refl);
   apart = apart [] t.spelled.items t.spelled.clear;
 }

@@ -14,7 +14,13 @@ use Rattle.descent.specs.Grammar.{Prod, give, token, call, mark, Item, word, mar
 use Rattle.ruby_grammar.specs.Words.{Word}
 use Rattle.ruby_grammar.specs.Signs.{is_text_piece}
 use Rattle.ruby_grammar.specs.Marks.{Mark, opens_class, gives_parent}
-use Rattle.ruby_grammar.specs.Rules.{ruby, Val, Name, Path, Sort, Rule, file, definitions, more_definitions, definition, path_rest, parent, constant, heading, parameter_list, parameters, more_parameters, more_readers, statements, more_statements, statement, simple_statement, condition_behind, then_or_line, perhaps_line, arms_rest, perhaps_expression, expression, choice_rest, operators, more_operators, unary, postfix, more_postfix, primary, name_rest, perhaps_arguments, members, more_members, pairs, more_pairs, pair, text_parts}
+use Rattle.ruby_grammar.specs.Rules.{ruby, Val, Name, Path, Sort, Rule, file, definitions, more_definitions, definition}
+use Rattle.ruby_grammar.specs.Rules.{path_rest, parent, constant, heading, parameter_list, parameters, more_parameters}
+use Rattle.ruby_grammar.specs.Rules.{more_readers, statements, more_statements, statement, simple_statement}
+use Rattle.ruby_grammar.specs.Rules.{condition_behind, then_or_line, perhaps_line, arms_rest, perhaps_expression}
+use Rattle.ruby_grammar.specs.Rules.{expression, choice_rest, operators, more_operators, unary, postfix, more_postfix}
+use Rattle.ruby_grammar.specs.Rules.{primary, name_rest, perhaps_arguments, members, more_members, pairs, more_pairs}
+use Rattle.ruby_grammar.specs.Rules.{pair, text_parts}
 use Rattle.ruby_grammar.specs.Language.{forms}
 use Rattle.ruby_grammar.specs.Follow.{is_quiet}
 use Rattle.ruby_grammar.proofs.Tools.{Each}
@@ -53,24 +59,30 @@ Pairs names ps = (qs : List (Expr × Expr)) → f.Formed names f.pairs qs → f.
 
 -- the flag is true where the last part is a plain one
 abbrev pub Parts : List Name → Bool → List Part → Type 0
-Parts names plain ps = (qs : List Part) → f.Formed names (f.parts (not plain)) qs → f.Formed names (f.parts true) (ps ++ qs)
+Parts names plain ps = (qs : List Part) → f.Formed names (f.parts (not plain)) qs →
+    f.Formed names (f.parts true) (ps ++ qs)
 
 abbrev pub Statements : Bool → List Name → List Stmt → List Name → Type 0
-Statements sets names ss mid = (rest : List Stmt) (after : List Name) → t.FormedStmt sets t.several mid rest after → t.FormedStmt sets t.several names (ss ++ rest) after
+Statements sets names ss mid = (rest : List Stmt) (after : List Name) → t.FormedStmt sets t.several mid rest after →
+    t.FormedStmt sets t.several names (ss ++ rest) after
 
 abbrev pub ArmsBefore : Bool → List Name → List (Expr × List Stmt) → List Name → Type 0
-ArmsBefore sets names arms mid = (rest : List (Expr × List Stmt)) (after : List Name) → t.FormedStmt sets t.branches mid rest after → t.FormedStmt sets t.branches names (arms ++ rest) after
+ArmsBefore sets names arms mid = (rest : List (Expr × List Stmt)) (after : List Name) →
+    t.FormedStmt sets t.branches mid rest after → t.FormedStmt sets t.branches names (arms ++ rest) after
 
 -- one arm or more
 abbrev pub Arms : Bool → List Name → List (Expr × List Stmt) → List Name → Type 0
 Arms sets names arms mid = t.FormedStmt sets t.branches names arms mid × ArmsBefore sets names arms mid
 
 abbrev pub Definitions : Path → List Def → List d.Deed → Type 0
-Definitions path ds es = (rest : List Def) (more : List d.Deed) → d.FormedDef path d.several_definitions rest more → d.FormedDef path d.several_definitions (ds ++ rest) (es ++ more)
+Definitions path ds es = (rest : List Def) (more : List d.Deed) → d.FormedDef path d.several_definitions rest more →
+    d.FormedDef path d.several_definitions (ds ++ rest) (es ++ more)
 
 -- one reader or more
 abbrev pub Readers : Path → List Name → List d.Deed → Type 0
-Readers path names es = d.FormedReaders path names es × ((rest : List Name) (more : List d.Deed) → d.FormedReaders path rest more → d.FormedReaders path (names ++ rest) (es ++ more))
+Readers path names es = d.FormedReaders path names es
+    × ((rest : List Name) (more : List d.Deed) → d.FormedReaders path rest more →
+    d.FormedReaders path (names ++ rest) (es ++ more))
 
 abbrev pub Parameters : List Name → Type 0
 Parameters names = (rest : List Name) → d.FormedParameters names rest → d.FormedParameters [] (names ++ rest)
@@ -108,10 +120,13 @@ Parent path (Some c) n = f.IsConstant c × (n ≡ d.deed path opens_class ∷ d.
 -- What is known of the value that a rule says behind a word, and of the deeds met in it.
 abbrev pub Meaning : {s : Sort} → Rule s → Option Word → Val s → List d.Deed → Type 0
 Meaning (file levels anywhere) a y n = anywhere ≡ false → d.FormedDef [] d.several_definitions y.defs n
-Meaning (definitions here ds) a y n = here.anywhere ≡ false → (es : List d.Deed) → Definitions here.path ds es → d.FormedDef here.path d.several_definitions y (es ++ n)
-Meaning (more_definitions here ds) a y n = here.anywhere ≡ false → (es : List d.Deed) → Definitions here.path ds es → d.FormedDef here.path d.several_definitions y (es ++ n)
+Meaning (definitions here ds) a y n = here.anywhere ≡ false → (es : List d.Deed) → Definitions here.path ds es →
+    d.FormedDef here.path d.several_definitions y (es ++ n)
+Meaning (more_definitions here ds) a y n = here.anywhere ≡ false → (es : List d.Deed) → Definitions here.path ds es →
+    d.FormedDef here.path d.several_definitions y (es ++ n)
 Meaning (definition here) a y n = here.anywhere ≡ false → d.FormedDef here.path d.definition y n
-Meaning (path_rest more ending names) a y n = (IsPath names → IsPath y) × (more ≡ false → y ≡ names) × (n ≡ ending_deeds ending)
+Meaning (path_rest more ending names) a y n = (IsPath names → IsPath y) × (more ≡ false → y ≡ names)
+    × (n ≡ ending_deeds ending)
 Meaning (parent path at) a y n = Parent path y n
 Meaning (constant ending) a y n = f.IsConstant y × (n ≡ ending_deeds ending)
 Meaning heading a y n = IsMethodName y.name
@@ -119,14 +134,18 @@ Meaning (parameter_list levels m) a y n = d.FormedParameters [] y × (n ≡ deed
 Meaning parameters a y n = d.FormedParameters [] y
 Meaning (more_parameters names) a y n = Parameters names → d.FormedParameters [] y
 Meaning (more_readers path names) a y n = (es : List d.Deed) → Readers path names es → d.FormedReaders path y (es ++ n)
-Meaning (statements here ss) a y n = (names : List Name) → Statements here.sets names ss here.names → t.FormedStmt here.sets t.several names y.stmts y.names
-Meaning (more_statements here ss) a y n = (names : List Name) → Statements here.sets names ss here.names → t.FormedStmt here.sets t.several names y.stmts y.names
+Meaning (statements here ss) a y n = (names : List Name) → Statements here.sets names ss here.names →
+    t.FormedStmt here.sets t.several names y.stmts y.names
+Meaning (more_statements here ss) a y n = (names : List Name) → Statements here.sets names ss here.names →
+    t.FormedStmt here.sets t.several names y.stmts y.names
 Meaning (statement here) a y n = t.FormedStmt here.sets t.whole here.names y.stmt y.names
 Meaning (simple_statement here) a y n = t.FormedStmt here.sets t.simple here.names y.stmt y.names
-Meaning (condition_behind levels s) a y n = (sets : Bool) (names : List Name) → t.FormedStmt sets t.simple names s.stmt s.names → t.FormedStmt sets t.whole names y.stmt y.names
+Meaning (condition_behind levels s) a y n = (sets : Bool) (names : List Name) →
+    t.FormedStmt sets t.simple names s.stmt s.names → t.FormedStmt sets t.whole names y.stmt y.names
 Meaning then_or_line a y n = Unit {0}
 Meaning perhaps_line a y n = Unit {0}
-Meaning (arms_rest levels sets may_elsif arms b) a y n = (names : List Name) → Arms sets names arms b.names → t.FormedStmt sets t.whole names y.stmt y.names
+Meaning (arms_rest levels sets may_elsif arms b) a y n = (names : List Name) → Arms sets names arms b.names →
+    t.FormedStmt sets t.whole names y.stmt y.names
 Meaning (perhaps_expression here) a y n = Perhaps here.names y
 Meaning (expression here) a y n = f.Formed here.names f.one y
 Meaning (choice_rest here x) a y n = f.Formed here.names f.one x → f.Formed here.names f.one y
@@ -143,7 +162,8 @@ Meaning (more_members here xs) a y n = Members here.names xs → f.Formed here.n
 Meaning (pairs here ps) a y n = Pairs here.names ps → f.Formed here.names f.pairs y
 Meaning (more_pairs here ps) a y n = Pairs here.names ps → f.Formed here.names f.pairs y
 Meaning (pair here) a y n = f.Formed here.names f.one y.0 × f.Formed here.names f.one y.1
-Meaning (text_parts here double ps) a y n = (plain : Bool) → Parts here.names plain ps → PerhapsPiece plain a → f.Formed here.names (f.parts true) y
+Meaning (text_parts here double ps) a y n = (plain : Bool) → Parts here.names plain ps → PerhapsPiece plain a →
+    f.Formed here.names (f.parts true) y
 
 -- ---- productions
 
@@ -152,11 +172,13 @@ abbrev pub met : Bool → List d.Deed → List d.Deed
 met true n = []
 met false n = n
 
--- Behind a word, with these deeds before: what the production says is so, if what its rules say is known, and its words are sound.
+-- Behind a word, with these deeds before: what the production says is so, if what its rules say is known, and its
+-- words are sound.
 abbrev pub Serves : {s : Sort} → Prod ruby s → (Val s → List d.Deed → Type 0) → List d.Deed → Option Word → Type 0
 Serves (give x) Q m a = Q x m
 Serves (token test next) Q m a = (w : Word) → test w ≡ true → Sound w → Beside a w → Serves (next w) Q m (Some w)
-Serves (call {v} rule next) Q m a = (y : Val v) (n : List d.Deed) (b : Option Word) → Meaning rule a y n → Serves (next y) Q (m ++ met (is_quiet rule) n) b
+Serves (call {v} rule next) Q m a = (y : Val v) (n : List d.Deed) (b : Option Word) → Meaning rule a y n →
+    Serves (next y) Q (m ++ met (is_quiet rule) n) b
 Serves (mark k p) Q m a = Serves p Q (m ++ deed_of k ∷ []) a
 
 -- what an alternative of a rule says means what the rule means

@@ -1,5 +1,6 @@
 -- Which kind of token a word is, by what it is to the grammar.
-use Rattle.std.proofs.Common.{◌≡◌, ℕ, ◌<◌, ◌≤◌, Bool, true, false, ◌&&◌, ◌==◌, nat_le, List, [], ◌∷◌, Option, Some, None, if◌then◌else◌, refl, arith, bytes_eq}
+use Rattle.std.proofs.Common.{◌≡◌, ℕ, ◌<◌, ◌≤◌, Bool, true, false, ◌&&◌, ◌==◌, nat_le, List, [], ◌∷◌, Option, Some}
+use Rattle.std.proofs.Common.{None, if◌then◌else◌, refl, arith, bytes_eq}
 use Rattle.std.proofs.lemmas.Bool.{eqb-true}
 use Rattle.std.proofs.lemmas.Bool.Decides.{nat_tests}
 use Rattle.ruby_token.specs.declared.token.Op.{Op}
@@ -10,7 +11,8 @@ use Rattle.ruby_token.specs.declared.opens.Quote.{Quote}
 use Rattle.ruby_token.specs.declared.opens.Quote.TheVariants as q
 use Rattle.ruby_token.specs.declared.state.State.{State}
 use Rattle.ruby_token.specs.Opens.{text_at}
-use Rattle.ruby_token.specs.Lexemes.{What, gap, token, InCode, InDouble, piece, closing, opening, InSingle, piece_single, closing_single, IsIn}
+use Rattle.ruby_token.specs.Lexemes.{What, gap, token, InCode, InDouble, piece, closing, opening, InSingle}
+use Rattle.ruby_token.specs.Lexemes.{piece_single, closing_single, IsIn}
 use Rattle.ruby_token.proofs.Words.{split_if}
 use Rattle.ruby_words.specs.Words.{word_rows}
 use Rattle.ruby_grammar.specs.Signs.{code_in, name_sign, op_sign, kind_sign}
@@ -26,7 +28,8 @@ below n m h = grind (arith, nat_tests)
 code_low : (rows : List (List ℕ × ℕ)) (name : List ℕ) → low rows ≡ true → code_in rows name ≤ 47
 code_low [] name h = omega arith
 code_low (row ∷ rows) name h =
-    split_if (λ c. c ≤ 47) (bytes_eq row.0 name) row.1 (code_in rows name) (λ e. below row.1 47 (and_true _ _ h).0) (λ e. code_low rows name (and_true _ _ h).1)
+    split_if (λ c. c ≤ 47) (bytes_eq row.0 name) row.1 (code_in rows name) (λ e. below row.1 47 (and_true _ _ h).0)
+    (λ e. code_low rows name (and_true _ _ h).1)
 
 name_low : (text : List ℕ) → name_sign text ≤ 47
 name_low text = code_low word_rows text refl
@@ -65,8 +68,12 @@ op_high _ = omega arith
 -- the one kind that has this sign, where it is no name and no operator
 abbrev pub kind_of : ℕ → TokenKind
 kind_of n =
-    if n == 50 then k.Line else (if n == 51 then k.Const else (if n == 52 then k.Ivar else (if n == 53 then k.Label else (if n == 54 then k.Sym else (if n == 55 then k.Int
-    else (if n == 56 then k.TextOpen else (if n == 57 then k.TextPiece else (if n == 58 then k.InsideOpen else (if n == 59 then k.InsideClose else k.TextClose)))))))))
+    if n == 50 then k.Line else
+    (if n == 51 then k.Const else
+    (if n == 52 then k.Ivar else (if n == 53 then k.Label else (if n == 54 then k.Sym else (if n == 55 then k.Int
+    else (if n == 56 then k.TextOpen else
+    (if n == 57 then k.TextPiece else
+    (if n == 58 then k.InsideOpen else (if n == 59 then k.InsideClose else k.TextClose)))))))))
 
 by_kind : (kind : TokenKind) (text : List ℕ) (n : ℕ) → kind_sign kind text ≡ n → 47 < n → n < 70 → kind ≡ kind_of n
 by_kind k.Line text n e l h = rw (← e) refl
@@ -83,7 +90,8 @@ by_kind k.InsideClose text n e l h = rw (← e) refl
 by_kind k.TextClose text n e l h = rw (← e) refl
 by_kind (k.Op o) text n e l h = absurd (omega (arith, op_high o, e, h))
 
-pub kind_is : (kind : TokenKind) (text : List ℕ) (n : ℕ) → (kind_sign kind text == n) ≡ true → 47 < n → n < 70 → kind ≡ kind_of n
+pub kind_is : (kind : TokenKind) (text : List ℕ) (n : ℕ) → (kind_sign kind text == n) ≡ true → 47 < n → n < 70 →
+    kind ≡ kind_of n
 kind_is kind text n h = by_kind kind text n (eqb-true (kind_sign kind text) n h)
 
 abbrev IsNamed : TokenKind → List ℕ → Type 0
@@ -104,7 +112,8 @@ by_name k.InsideClose text e = absurd (omega arith)
 by_name k.TextClose text e = absurd (omega arith)
 by_name (k.Op o) text e = absurd (omega (arith, op_high o, e))
 
-pub name_is : (kind : TokenKind) (text : List ℕ) → (kind_sign kind text == 0) ≡ true → (kind ≡ k.Name) × (name_sign text ≡ 0)
+pub name_is : (kind : TokenKind) (text : List ℕ) → (kind_sign kind text == 0) ≡ true → (kind ≡ k.Name)
+    × (name_sign text ≡ 0)
 name_is kind text h = by_name kind text (eqb-true (kind_sign kind text) 0 h)
 
 pub op_is : (kind : TokenKind) (text : List ℕ) → 70 ≤ kind_sign kind text → (o : Op) × (kind ≡ k.Op o)
@@ -140,10 +149,12 @@ single_only : {s : State} {w : What} {t r : List ℕ} → InSingle w t r → in_
 single_only (piece_single p) h = cc
 single_only closing_single h = cc
 
-code_only : (o : Option Quote) (s : State) (w : What) (t r : List ℕ) → IsIn o s w t r → in_text w ≡ false → InCode s w t r
+code_only : (o : Option Quote) (s : State) (w : What) (t r : List ℕ) → IsIn o s w t r → in_text w ≡ false →
+    InCode s w t r
 code_only None s w t r i h = i
 code_only (Some q.Double) s w t r i h = double_only i h
 code_only (Some q.Single) s w t r i h = single_only i h
 
-pub in_code : (s : State) (w : What) (t r : List ℕ) → IsIn (text_at s.opens) s w t r → in_text w ≡ false → InCode s w t r
+pub in_code : (s : State) (w : What) (t r : List ℕ) → IsIn (text_at s.opens) s w t r → in_text w ≡ false →
+    InCode s w t r
 in_code s w t r i h = code_only (text_at s.opens) s w t r i h

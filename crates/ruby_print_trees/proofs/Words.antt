@@ -1,5 +1,7 @@
 -- What the words of a file are: names, constants, numbers, symbols, pieces of texts and operators.
-use Rattle.std.proofs.Common.{◌≡◌, ◌≢◌, ℕ, ◌-◌, ◌≤◌, Bool, true, false, ◌&&◌, ◌||◌, not, ◌==◌, nat_le, List, [], ◌∷◌, ◌++◌, length, drop, Option, Some, None, refl, sym, ◌∙◌, subst, arith, length-append, IsUtf8}
+use Rattle.std.proofs.Common.{◌≡◌, ◌≢◌, ℕ, ◌-◌, ◌≤◌, Bool, true, false, ◌&&◌, ◌||◌, not, ◌==◌, nat_le, List, [], ◌∷◌}
+use Rattle.std.proofs.Common.{◌++◌, length, drop, Option, Some, None, refl, sym, ◌∙◌, subst, arith, length-append}
+use Rattle.std.proofs.Common.{IsUtf8}
 use Rattle.std.proofs.lemmas.Bool.Decides.{nat_tests}
 use Rattle.ruby_types.specs.declared.tree.Expr.{Expr}
 use Rattle.ruby_token.specs.declared.token.Op.{Op}
@@ -13,15 +15,20 @@ use Rattle.ruby_token.specs.Opens.{text_at}
 use Rattle.ruby_token.specs.Number.{is_in_range}
 use Rattle.ruby_token.specs.Cut.{is_big}
 use Rattle.ruby_token.specs.Lexemes as l
-use Rattle.ruby_token.specs.Lexemes.{NameTail, plain, suffixed, Row, first_row, later_row, InCode, name, constant, ivar, label, symbol, symbol_constant, operator, InDouble, piece, InSingle, piece_single, IsIn}
+use Rattle.ruby_token.specs.Lexemes.{NameTail, plain, suffixed, Row, first_row, later_row, InCode, name, constant, ivar}
+use Rattle.ruby_token.specs.Lexemes.{label, symbol, symbol_constant, operator, InDouble, piece, InSingle, piece_single}
+use Rattle.ruby_token.specs.Lexemes.{IsIn}
 use Rattle.ruby_token.proofs.Words.{split_if}
 use Rattle.ruby_token.proofs.Cuts.{take_front}
 use Rattle.ruby_grammar.specs.Words.{Word}
-use Rattle.ruby_grammar.specs.Signs.{op_sign, sign, kind_sign, is, ends_in_suffix, is_name, is_variable, is_const, is_ivar, is_sym, is_label, is_int, is_text_piece, Level, units, products, sums, comparisons, equalities, conjunctions, disjunctions, is_operator}
+use Rattle.ruby_grammar.specs.Signs.{op_sign, sign, kind_sign, is, ends_in_suffix, is_name, is_variable, is_const}
+use Rattle.ruby_grammar.specs.Signs.{is_ivar, is_sym, is_label, is_int, is_text_piece, Level, units, products, sums}
+use Rattle.ruby_grammar.specs.Signs.{comparisons, equalities, conjunctions, disjunctions, is_operator}
 use Rattle.ruby_grammar.specs.Rules.{Name}
 use Rattle.ruby_grammar.specs.Values.{number_of, behind_sign, before_colon, text_bytes, operation}
 use Rattle.ruby_grammar.proofs.Tools.{and_true}
-use Rattle.ruby_print_pieces.specs.Names.{IsPlainName, plain_name, IsName, unmarked, IsConstName, capital, IsSymbolName, of_name, of_constant, IsMethodName, IsVariableName, IsInRange, is_operation}
+use Rattle.ruby_print_pieces.specs.Names.{IsPlainName, plain_name, IsName, unmarked, IsConstName, capital, IsSymbolName}
+use Rattle.ruby_print_pieces.specs.Names.{of_name, of_constant, IsMethodName, IsVariableName, IsInRange, is_operation}
 use Rattle.ruby_print_pieces.specs.Names as naming
 use Rattle.ruby_print_pieces.specs.Formed.{Formed, one, is_operation_of, is_not, is_and, is_or}
 use Rattle.ruby_print_trees.proofs.Meaning.{Sound}
@@ -49,10 +56,12 @@ symbol_text (symbol {b = b} {t = t} {r = r} c h n) = of_name (tail_name b t r h 
 symbol_text (symbol_constant c h e) = of_constant (capital h e)
 
 front_of : (t : List ℕ) (c : ℕ) → before_colon (t ++ c ∷ []) ≡ t
-front_of t c = let e : length (t ++ c ∷ []) - 1 ≡ length t = rw length-append (omega arith) in rw e (take_front t (c ∷ []))
+front_of t c = let e : length (t ++ c ∷ []) - 1 ≡ length t = rw length-append (omega arith) in
+    rw e (take_front t (c ∷ []))
 
 label_text : {s : State} {t r : List ℕ} → InCode s (l.token k.Label) t r → IsSymbolName (before_colon t)
-label_text (label {b = b} {t = t} {r = r} h n c) = subst IsSymbolName (sym (front_of (b ∷ t) 58)) (of_name (tail_name b t (58 ∷ r) h n))
+label_text (label {b = b} {t = t} {r = r} h n c) = subst IsSymbolName (sym (front_of (b ∷ t) 58))
+    (of_name (tail_name b t (58 ∷ r) h n))
 
 -- a name that ends in no suffix is plain
 suffix_at_end : (t : List ℕ) (q : ℕ) → ends_in_suffix (t ++ q ∷ []) ≡ is_suffix q
@@ -77,7 +86,10 @@ of_kind w kind e s = subst (λ x. l.Is s.state (l.token x) w.text s.rest) e s.sp
 pub name_of : (w : Word) → is_name w ≡ true → Sound w → IsMethodName w.text
 name_of w h s =
     let e = name_is w.kind w.text h in
-    record { spelled = name_text (in_code s.state (l.token k.Name) w.text s.rest (of_kind w k.Name e.0 s) refl); free = e.1 }
+    record {
+      spelled = name_text (in_code s.state (l.token k.Name) w.text s.rest (of_kind w k.Name e.0 s) refl);
+      free = e.1;
+    }
 
 pub variable_of : (w : Word) → is_variable w ≡ true → Sound w → IsVariableName w.text
 variable_of w h s =
@@ -86,16 +98,24 @@ variable_of w h s =
     record { spelled = plain_of m.spelled p.1; free = m.free }
 
 pub const_of : (w : Word) → is_const w ≡ true → Sound w → IsConstName w.text
-const_of w h s = const_text (in_code s.state (l.token k.Const) w.text s.rest (of_kind w k.Const (kind_is w.kind w.text 51 h (omega arith) (omega arith)) s) refl)
+const_of w h s = const_text
+    (in_code s.state (l.token k.Const) w.text s.rest
+    (of_kind w k.Const (kind_is w.kind w.text 51 h (omega arith) (omega arith)) s) refl)
 
 pub ivar_of : (w : Word) → is_ivar w ≡ true → Sound w → IsPlainName (behind_sign w.text)
-ivar_of w h s = ivar_text (in_code s.state (l.token k.Ivar) w.text s.rest (of_kind w k.Ivar (kind_is w.kind w.text 52 h (omega arith) (omega arith)) s) refl)
+ivar_of w h s = ivar_text
+    (in_code s.state (l.token k.Ivar) w.text s.rest
+    (of_kind w k.Ivar (kind_is w.kind w.text 52 h (omega arith) (omega arith)) s) refl)
 
 pub label_of : (w : Word) → is_label w ≡ true → Sound w → IsSymbolName (before_colon w.text)
-label_of w h s = label_text (in_code s.state (l.token k.Label) w.text s.rest (of_kind w k.Label (kind_is w.kind w.text 53 h (omega arith) (omega arith)) s) refl)
+label_of w h s = label_text
+    (in_code s.state (l.token k.Label) w.text s.rest
+    (of_kind w k.Label (kind_is w.kind w.text 53 h (omega arith) (omega arith)) s) refl)
 
 pub symbol_of : (w : Word) → is_sym w ≡ true → Sound w → IsSymbolName (behind_sign w.text)
-symbol_of w h s = symbol_text (in_code s.state (l.token k.Sym) w.text s.rest (of_kind w k.Sym (kind_is w.kind w.text 54 h (omega arith) (omega arith)) s) refl)
+symbol_of w h s = symbol_text
+    (in_code s.state (l.token k.Sym) w.text s.rest
+    (of_kind w k.Sym (kind_is w.kind w.text 54 h (omega arith) (omega arith)) s) refl)
 
 not_big : (b : Bool) → not b ≡ false → b ≡ true
 not_big true h = refl
@@ -108,15 +128,19 @@ number_of_word w h s =
 
 -- ---- pieces of texts
 
-piece_some : (o : Option Quote) (s : State) (t r : List ℕ) → IsIn o s (l.token k.TextPiece) t r → (double : Bool) → text_bytes double t ≢ []
+piece_some : (o : Option Quote) (s : State) (t r : List ℕ) → IsIn o s (l.token k.TextPiece) t r → (double : Bool) →
+    text_bytes double t ≢ []
 piece_some None s t r i double = elim i [ ]
 piece_some (Some q.Double) s t r (piece {b = b} {t = u} p) double = text_some double b u
 piece_some (Some q.Single) s t r (piece_single {b = b} {t = u} p) double = text_some double b u
 
-pub piece_of : (w : Word) → is_text_piece w ≡ true → Sound w → (double : Bool) → (text_bytes double w.text ≢ []) × IsUtf8 (text_bytes double w.text)
+pub piece_of : (w : Word) → is_text_piece w ≡ true → Sound w → (double : Bool) → (text_bytes double w.text ≢ [])
+    × IsUtf8 (text_bytes double w.text)
 piece_of w h s double =
-    let e = kind_is w.kind w.text 57 h (omega arith) (omega arith) in
-    (piece_some (text_at s.state.opens) s.state w.text s.rest (of_kind w k.TextPiece e s) double, text_utf8 double w.text (s.utf8 e))
+    let e = kind_is w.kind w.text 57 h (omega arith) (omega arith) in (
+      piece_some (text_at s.state.opens) s.state w.text s.rest (of_kind w k.TextPiece e s) double,
+      text_utf8 double w.text (s.utf8 e),
+    )
 
 -- ---- operators
 
@@ -132,11 +156,13 @@ either_named : (a b : Bool) → (not a || b) ≡ true → a ≡ true → b ≡ t
 either_named true b h e = h
 either_named false b h e = cc
 
-row_named : {rows : List (List ℕ × Op)} {t : List ℕ} {x : Op} → Row rows t x → rows_named rows ≡ true → is_called (op_sign x) ≡ true → is_operation t ≡ true
+row_named : {rows : List (List ℕ × Op)} {t : List ℕ} {x : Op} → Row rows t x → rows_named rows ≡ true →
+    is_called (op_sign x) ≡ true → is_operation t ≡ true
 row_named (first_row {t = t} {x = x}) h c = either_named (is_called (op_sign x)) (is_operation t) (and_true _ _ h).0 c
 row_named (later_row {q = q} r) h c = row_named r (and_true (not (is_called (op_sign q.1)) || is_operation q.0) _ h).1 c
 
-operator_text : {s : State} {t r : List ℕ} {x : Op} → InCode s (l.token (k.Op x)) t r → is_called (op_sign x) ≡ true → is_operation t ≡ true
+operator_text : {s : State} {t r : List ℕ} {x : Op} → InCode s (l.token (k.Op x)) t r →
+    is_called (op_sign x) ≡ true → is_operation t ≡ true
 operator_text (operator r h) c = row_named r refl c
 
 called_high : (n : ℕ) → is_called n ≡ true → 70 ≤ n
@@ -166,7 +192,8 @@ is_sign sums w = refl
 is_sign products w = refl
 is_sign units w = refl
 
-called_of : (level : Level) (n : ℕ) → operator_sign level n ≡ true → (n == 70) ≡ false → (n == 71) ≡ false → (n == 74) ≡ false → is_called n ≡ true
+called_of : (level : Level) (n : ℕ) → operator_sign level n ≡ true → (n == 70) ≡ false → (n == 71) ≡ false →
+    (n == 74) ≡ false → is_called n ≡ true
 called_of disjunctions n h a b c = grind (arith, nat_tests)
 called_of conjunctions n h a b c = grind (arith, nat_tests)
 called_of equalities n h a b c = grind (arith, nat_tests)
@@ -175,7 +202,8 @@ called_of sums n h a b c = grind (arith, nat_tests)
 called_of products n h a b c = grind (arith, nat_tests)
 called_of units n h a b c = cc
 
-pub operation_of : (level : Level) (w : Word) (names : List Name) (x y : Expr) → is_operator level w ≡ true → Sound w → Formed names one x → Formed names one y → Formed names one (operation w x y)
+pub operation_of : (level : Level) (w : Word) (names : List Name) (x y : Expr) → is_operator level w ≡ true →
+    Sound w → Formed names one x → Formed names one y → Formed names one (operation w x y)
 operation_of level w names x y h s i j =
     split_if (λ z. Formed names one z) (is 70 w) _ _ (λ e. is_or i j) (λ a.
     split_if (λ z. Formed names one z) (is 71 w) _ _ (λ e. is_and i j) (λ b.

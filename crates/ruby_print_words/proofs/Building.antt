@@ -1,5 +1,6 @@
 -- Sentences of the grammar over pieces of text, built one piece and one rule at a time.
-use Rattle.std.proofs.Common.{◌≡◌, ℕ, zero, suc, ◌+◌, ◌≤◌, Bool, true, List, [], ◌∷◌, ◌++◌, refl, sym, ap, subst, append-nil, arith}
+use Rattle.std.proofs.Common.{◌≡◌, ℕ, zero, suc, ◌+◌, ◌≤◌, Bool, true, List, [], ◌∷◌, ◌++◌, refl, sym, ap, subst}
+use Rattle.std.proofs.Common.{append-nil, arith}
 use Rattle.descent.specs.Grammar.{Prod, give, token, call, only, Item, word, Among, Is, is_given, is_word, is_called}
 use Rattle.ruby_grammar.specs.Words.{Word}
 use Rattle.ruby_grammar.specs.Rules.{ruby, Sort, Val, Rule}
@@ -30,7 +31,8 @@ pub record Reads {s : Sort} (rule : Rule s) (ps : List Piece) (x : Val s) : Type
   pub among : Among form (forms rule)
   pub sent : Sent form ps x
 
-pub reads : {s : Sort} {rule : Rule s} {form : Prod ruby s} {ps : List Piece} {x : Val s} → Among form (forms rule) → Sent form ps x → Reads rule ps x
+pub reads : {s : Sort} {rule : Rule s} {form : Prod ruby s} {ps : List Piece} {x : Val s} → Among form (forms rule) →
+    Sent form ps x → Reads rule ps x
 reads {form} am h = record { form = form; among = am; sent = h }
 
 pub given : {s : Sort} {x : Val s} → Sent (give x) [] x
@@ -38,9 +40,14 @@ given = record { at = λ n. is_given }
 
 -- a piece whose word passes, where what follows doesn't look at its place
 pub takes : {s : Sort} {test : Word → Bool} {next : Word → Prod ruby s} {p : Piece} {ps : List Piece} {x : Val s} →
-    ((n : ℕ) → test (word_at n p) ≡ true) → ((n : ℕ) → next (word_at n p) ≡ next (word_at 0 p)) → Sent (next (word_at 0 p)) ps x → Sent (token test next) (p ∷ ps) x
+    ((n : ℕ) → test (word_at n p) ≡ true) → ((n : ℕ) → next (word_at n p) ≡ next (word_at 0 p)) →
+    Sent (next (word_at 0 p)) ps x → Sent (token test next) (p ∷ ps) x
 takes {s} {test} {next} {p} {ps} {x} passes blind h =
-    record { at = λ n. is_word (passes n) (subst (λ q. Is ruby_grammar s q (items_at (behind_piece n p) ps) x) (sym (blind n)) (h.at (behind_piece n p))) }
+    record {
+      at = λ n. is_word (passes n)
+          (subst (λ q. Is ruby_grammar s q (items_at (behind_piece n p) ps) x) (sym (blind n))
+          (h.at (behind_piece n p)));
+    }
 
 -- what a rule reads, and what follows
 pub then_ : {s v : Sort} {rule : Rule v} {next : Val v → Prod ruby s} {us vs : List Piece} {y : Val v} {x : Val s} →
@@ -51,7 +58,8 @@ then_ {us} {vs} r h = record { at = λ n. is_called r.among (r.sent.at n) (h.at 
 pub over : {s : Sort} {p : Prod ruby s} {ps qs : List Piece} {x : Val s} → ps ≡ qs → Sent p qs x → Sent p ps x
 over {s} {p} {ps} {qs} {x} e h = subst (λ t. Sent p t x) (sym e) h
 
-pub over_rule : {s : Sort} {rule : Rule s} {ps qs : List Piece} {x : Val s} → ps ≡ qs → Reads rule qs x → Reads rule ps x
+pub over_rule : {s : Sort} {rule : Rule s} {ps qs : List Piece} {x : Val s} → ps ≡ qs → Reads rule qs x →
+    Reads rule ps x
 over_rule {s} {rule} {ps} {qs} {x} e h = subst (λ t. Reads rule t x) (sym e) h
 
 -- another form of the value

@@ -13,11 +13,28 @@ use Rattle.ruby_print_words.proofs.Marked.{Marked, tells, tells_over, m_given, m
 use Rattle.ruby_print_words.proofs.Bodies.{Lot}
 use Rattle.ruby_print_words.proofs.Definitions.{defined}
 
-told_file : (tree : FileTree) (l : ℕ) (ds : List Deed) → Lot [] tree.defs ds l → Marked 0 (only (file l false)) (file_pieces tree) ds tree
-told_file tree l ds h = m_says (tells (later first) (m_ends (tells_over (sym (flat_map-map (line []) definition tree.defs)) (h.read 0 [] [])) m_given))
+told_file : (tree : FileTree) (l : ℕ) (ds : List Deed) → Lot [] tree.defs ds l →
+    Marked 0 (only (file l false)) (file_pieces tree) ds tree
+told_file tree l ds h = m_says
+    (tells (later first) (m_ends (tells_over (sym (flat_map-map (line []) definition tree.defs)) (h.read 0 [] []))
+    m_given))
 
-spelled_of : (tree : FileTree) (l : ℕ) (ds : List Deed) → Apart [] ds → Marked 0 (only (file l false)) (file_pieces tree) ds tree → Spells ruby_grammar (file l false) (words_at 0 (file_pieces tree)) tree
-spelled_of tree l ds apart h = record { items = h.items; spelled = h.spelled; says = h.says; clear = clear_of [] h.items (subst (λ es. Apart [] es) (sym h.does) apart) }
+spelled_of : (tree : FileTree) (l : ℕ) (ds : List Deed) → Apart [] ds →
+    Marked 0 (only (file l false)) (file_pieces tree) ds tree →
+    Spells ruby_grammar (file l false) (words_at 0 (file_pieces tree)) tree
+spelled_of tree l ds apart h =
+    record {
+      items = h.items;
+      spelled = h.spelled;
+      says = h.says;
+      clear =
+          clear_of [] h.items (subst (λ es. Apart [] es) (sym h.does) apart);
+    }
 
-pub formed_is_spelled : (tree : FileTree) → FormedFile tree → (levels : ℕ) × Spells ruby_grammar (file levels false) (words_at 0 (file_pieces tree)) tree
-formed_is_spelled tree f = let e = defined f.formed in (e.least, spelled_of tree e.least f.deeds f.apart (told_file tree e.least f.deeds (e.holds e.least (le_refl e.least))))
+pub formed_is_spelled : (tree : FileTree) → FormedFile tree → (levels : ℕ)
+    × Spells ruby_grammar (file levels false) (words_at 0 (file_pieces tree)) tree
+formed_is_spelled tree f = let e = defined f.formed in (
+  e.least,
+  spelled_of tree e.least f.deeds f.apart
+      (told_file tree e.least f.deeds (e.holds e.least (le_refl e.least))),
+)

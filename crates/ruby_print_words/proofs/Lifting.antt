@@ -3,8 +3,10 @@ use Rattle.std.proofs.Common.{◌≡◌, ℕ, zero, suc, Bool, true, false, List
 use Rattle.ruby_types.specs.declared.tree.Expr.{Expr}
 use Rattle.descent.specs.Grammar.{first, later}
 use Rattle.ruby_token.specs.declared.token.Op.{Op}
-use Rattle.ruby_grammar.specs.Signs.{Level, units, products, sums, comparisons, equalities, conjunctions, disjunctions, tighter, is_operator, repeats}
-use Rattle.ruby_grammar.specs.Rules.{Name, Scope, operators, more_operators, unary, postfix, more_postfix, primary, choice_rest}
+use Rattle.ruby_grammar.specs.Signs.{Level, units, products, sums, comparisons, equalities, conjunctions, disjunctions}
+use Rattle.ruby_grammar.specs.Signs.{tighter, is_operator, repeats}
+use Rattle.ruby_grammar.specs.Rules.{Name, Scope, operators, more_operators, unary, postfix, more_postfix, primary}
+use Rattle.ruby_grammar.specs.Rules.{choice_rest}
 use Rattle.ruby_grammar.specs.Rules as rule
 use Rattle.ruby_grammar.specs.Expressions.{opening, not_from, minus_from, index_from, operators_behind}
 use Rattle.ruby_grammar.specs.Statements.{scope}
@@ -12,7 +14,8 @@ use Rattle.ruby_grammar.specs.Values.{operation}
 use Rattle.ruby_grammar.proofs.Tools.{among_behind}
 use Rattle.ruby_print_pieces.specs.Pieces.{Piece, mark, word_at, space, open_paren, close_paren}
 use Rattle.ruby_print_pieces.specs.Expressions.{expression, enclosed}
-use Rattle.ruby_print_words.proofs.Building.{Sent, Reads, reads, given, takes, then_, ends, says, over_rule, Eventually, Under, so, both, deeper}
+use Rattle.ruby_print_words.proofs.Building.{Sent, Reads, reads, given, takes, then_, ends, says, over_rule, Eventually}
+use Rattle.ruby_print_words.proofs.Building.{Under, so, both, deeper}
 
 -- ---- nothing follows
 
@@ -28,38 +31,53 @@ no_operator k here x = reads (later first) given
 
 -- ---- from a level to looser ones
 
-pub looser : (k : Level) (here : Scope) {ps : List Piece} {x : Expr} → Reads (operators (tighter k) here) ps x → Reads (operators k here) ps x
+pub looser : (k : Level) (here : Scope) {ps : List Piece} {x : Expr} → Reads (operators (tighter k) here) ps x →
+    Reads (operators k here) ps x
 looser units here r = r
 looser k here {ps} {x} r = reads first (ends r (says (no_operator k here x)))
 
 -- from the tightest level to any
-pub loosened : (k : Level) (here : Scope) {ps : List Piece} {x : Expr} → Reads (operators units here) ps x → Reads (operators k here) ps x
+pub loosened : (k : Level) (here : Scope) {ps : List Piece} {x : Expr} → Reads (operators units here) ps x →
+    Reads (operators k here) ps x
 loosened units here r = r
 loosened products here r = looser products here r
 loosened sums here r = looser sums here (looser products here r)
 loosened comparisons here r = looser comparisons here (looser sums here (looser products here r))
-loosened equalities here r = looser equalities here (looser comparisons here (looser sums here (looser products here r)))
-loosened conjunctions here r = looser conjunctions here (looser equalities here (looser comparisons here (looser sums here (looser products here r))))
-loosened disjunctions here r = looser disjunctions here (looser conjunctions here (looser equalities here (looser comparisons here (looser sums here (looser products here r)))))
+loosened equalities here r =
+    looser equalities here (looser comparisons here (looser sums here (looser products here r)))
+loosened conjunctions here r =
+    looser conjunctions here
+    (looser equalities here (looser comparisons here (looser sums here (looser products here r))))
+loosened disjunctions here r =
+    looser disjunctions here
+    (looser conjunctions here
+    (looser equalities here (looser comparisons here (looser sums here (looser products here r)))))
 
 -- from any level to the loosest
-pub loosest : (k : Level) (here : Scope) {ps : List Piece} {x : Expr} → Reads (operators k here) ps x → Reads (operators disjunctions here) ps x
+pub loosest : (k : Level) (here : Scope) {ps : List Piece} {x : Expr} → Reads (operators k here) ps x →
+    Reads (operators disjunctions here) ps x
 loosest units here r = loosened disjunctions here r
-loosest products here r = looser disjunctions here (looser conjunctions here (looser equalities here (looser comparisons here (looser sums here r))))
-loosest sums here r = looser disjunctions here (looser conjunctions here (looser equalities here (looser comparisons here r)))
+loosest products here r =
+    looser disjunctions here
+    (looser conjunctions here (looser equalities here (looser comparisons here (looser sums here r))))
+loosest sums here r = looser disjunctions here
+    (looser conjunctions here (looser equalities here (looser comparisons here r)))
 loosest comparisons here r = looser disjunctions here (looser conjunctions here (looser equalities here r))
 loosest equalities here r = looser disjunctions here (looser conjunctions here r)
 loosest conjunctions here r = looser disjunctions here r
 loosest disjunctions here r = r
 
-pub whole : (k : Level) (here : Scope) {ps : List Piece} {x : Expr} → Reads (operators k here) ps x → Reads (rule.expression here) ps x
+pub whole : (k : Level) (here : Scope) {ps : List Piece} {x : Expr} → Reads (operators k here) ps x →
+    Reads (rule.expression here) ps x
 whole k here {ps} {x} r = reads first (ends (loosest k here r) (says (no_choice here x)))
 
 pub of_unary : (here : Scope) {ps : List Piece} {x : Expr} → Reads (unary here) ps x → Reads (operators units here) ps x
 of_unary here r = reads first (says r)
 
 unary_postfix : (here : Scope) {ps : List Piece} {x : Expr} → Reads (postfix here) ps x → Reads (unary here) ps x
-unary_postfix here r = reads (among_behind (opening here.levels (not_from here)) (among_behind (opening here.levels (minus_from here)) first)) (says r)
+unary_postfix here r = reads
+    (among_behind (opening here.levels (not_from here)) (among_behind (opening here.levels (minus_from here)) first))
+    (says r)
 
 of_postfix : (here : Scope) {ps : List Piece} {x : Expr} → Reads (postfix here) ps x → Reads (operators units here) ps x
 of_postfix here r = of_unary here (unary_postfix here r)
@@ -70,43 +88,59 @@ stops : (k : Level) (here : Scope) (x : Expr) → Sent (operators_behind (repeat
 stops equalities here x = given
 stops k here x = says (no_operator k here x)
 
-pub operates : (k : Level) (here : Scope) (o : Op) (text : List ℕ) {us vs : List Piece} {x y : Expr} → is_operator k (word_at 0 (mark space o text)) ≡ true →
-    Reads (operators units here) us x → Reads (operators units here) vs y → Reads (operators k here) (us ++ (mark space o text ∷ vs)) (operation (word_at 0 (mark space o text)) x y)
+pub operates : (k : Level) (here : Scope) (o : Op) (text : List ℕ) {us vs : List Piece} {x y : Expr} →
+    is_operator k (word_at 0 (mark space o text)) ≡ true →
+    Reads (operators units here) us x → Reads (operators units here) vs y →
+    Reads (operators k here) (us ++ (mark space o text ∷ vs)) (operation (word_at 0 (mark space o text)) x y)
 operates units here o text e a b = cc
 operates k here o text {us} {vs} {x} {y} e a b =
-    reads first (then_ (loosened (tighter k) here a) (says (reads first (takes (λ n. e) (λ n. refl) (ends (loosened (tighter k) here b) (stops k here (operation (word_at 0 (mark space o text)) x y)))))))
+    reads first (then_ (loosened (tighter k) here a)
+    (says (reads first (takes (λ n. e) (λ n. refl)
+    (ends (loosened (tighter k) here b) (stops k here (operation (word_at 0 (mark space o text)) x y)))))))
 
 -- ---- what is shown of each expression
 
 -- Inside another it is read by the rule of postfix expressions, whatever follows it; alone by the rule of expressions.
 pub record Ready (names : List Name) (x : Expr) (l : ℕ) : Type 0 where
-  pub inside : (gap : List ℕ) (more : List Piece) (y : Expr) → Reads (more_postfix (scope l names) x) more y → Reads (postfix (scope l names)) (expression x gap true ++ more) y
+  pub inside : (gap : List ℕ) (more : List Piece) (y : Expr) → Reads (more_postfix (scope l names) x) more y →
+      Reads (postfix (scope l names)) (expression x gap true ++ more) y
   pub alone : (gap : List ℕ) → Reads (rule.expression (scope l names)) (expression x gap false) x
 
-pub unary_operand : {names : List Name} {x : Expr} {l : ℕ} → Ready names x l → (gap : List ℕ) → Reads (unary (scope l names)) (expression x gap true) x
-unary_operand {names} {x} {l} r gap = unary_postfix (scope l names) (over_rule (sym (append-nil (expression x gap true))) (r.inside gap [] x (no_postfix (scope l names) x)))
+pub unary_operand : {names : List Name} {x : Expr} {l : ℕ} → Ready names x l → (gap : List ℕ) →
+    Reads (unary (scope l names)) (expression x gap true) x
+unary_operand {names} {x} {l} r gap =
+    unary_postfix (scope l names)
+    (over_rule (sym (append-nil (expression x gap true))) (r.inside gap [] x (no_postfix (scope l names) x)))
 
-pub operand : {names : List Name} {x : Expr} {l : ℕ} → Ready names x l → (gap : List ℕ) → Reads (operators units (scope l names)) (expression x gap true) x
+pub operand : {names : List Name} {x : Expr} {l : ℕ} → Ready names x l → (gap : List ℕ) →
+    Reads (operators units (scope l names)) (expression x gap true) x
 operand {names} {x} {l} r gap = of_unary (scope l names) (unary_operand r gap)
 
-pub inner : {names : List Name} {x : Expr} {l : ℕ} → Ready names x l → (gap : List ℕ) → Reads (rule.expression (scope l names)) (expression x gap true) x
+pub inner : {names : List Name} {x : Expr} {l : ℕ} → Ready names x l → (gap : List ℕ) →
+    Reads (rule.expression (scope l names)) (expression x gap true) x
 inner {names} {x} {l} r gap = whole units (scope l names) (operand r gap)
 
 -- an expression that has no parentheses inside another
-pub open_ready : {names : List Name} {x : Expr} {l : ℕ} (pieces : List ℕ → List Piece) → ((gap : List ℕ) (inside : Bool) → expression x gap inside ≡ pieces gap) →
-    ((gap : List ℕ) (more : List Piece) (y : Expr) → Reads (more_postfix (scope l names) x) more y → Reads (postfix (scope l names)) (pieces gap ++ more) y) → Ready names x l
+pub open_ready : {names : List Name} {x : Expr} {l : ℕ} (pieces : List ℕ → List Piece) →
+    ((gap : List ℕ) (inside : Bool) → expression x gap inside ≡ pieces gap) →
+    ((gap : List ℕ) (more : List Piece) (y : Expr) → Reads (more_postfix (scope l names) x) more y →
+    Reads (postfix (scope l names)) (pieces gap ++ more) y) → Ready names x l
 open_ready {names} {x} {l} pieces e h = record {
   inside = λ gap more y r. over_rule (ap (λ t. t ++ more) (e gap true)) (h gap more y r);
-  alone = λ gap. over_rule (e gap false ∙ sym (append-nil (pieces gap))) (whole units (scope l names) (of_postfix (scope l names) (h gap [] x (no_postfix (scope l names) x))));
+  alone = λ gap. over_rule (e gap false ∙ sym (append-nil (pieces gap)))
+      (whole units (scope l names) (of_postfix (scope l names) (h gap [] x (no_postfix (scope l names) x))));
 }
 
-pub primary_ready : {names : List Name} {x : Expr} {l : ℕ} (pieces : List ℕ → List Piece) → ((gap : List ℕ) (inside : Bool) → expression x gap inside ≡ pieces gap) →
+pub primary_ready : {names : List Name} {x : Expr} {l : ℕ} (pieces : List ℕ → List Piece) →
+    ((gap : List ℕ) (inside : Bool) → expression x gap inside ≡ pieces gap) →
     ((gap : List ℕ) → Reads (primary (scope l names)) (pieces gap) x) → Ready names x l
 primary_ready pieces e h = open_ready pieces e (λ gap more y r. reads first (then_ (h gap) (says r)))
 
 -- one that has parentheses inside another
-grouped : (l : ℕ) (names : List Name) {x : Expr} (body : List ℕ → List Piece) → ((gap : List ℕ) (inside : Bool) → expression x gap inside ≡ enclosed body gap inside) →
-    ((gap : List ℕ) → Reads (rule.expression (scope l names)) (body gap) x) → Under (λ l. (gap : List ℕ) → Reads (rule.expression (scope l names)) (body gap) x) l → Ready names x l
+grouped : (l : ℕ) (names : List Name) {x : Expr} (body : List ℕ → List Piece) →
+    ((gap : List ℕ) (inside : Bool) → expression x gap inside ≡ enclosed body gap inside) →
+    ((gap : List ℕ) → Reads (rule.expression (scope l names)) (body gap) x) →
+    Under (λ l. (gap : List ℕ) → Reads (rule.expression (scope l names)) (body gap) x) l → Ready names x l
 grouped zero names body e h u = absurd u
 grouped (suc l) names {x} body e h u = record {
   inside = λ gap more y r. over_rule (ap (λ t. t ++ more) (e gap true)) (reads first (then_ (group gap) (says r)));
@@ -114,9 +148,11 @@ grouped (suc l) names {x} body e h u = record {
 }
   where
     group : (gap : List ℕ) → Reads (primary (scope (suc l) names)) (open_paren gap ∷ (body [] ++ close_paren ∷ [])) x
-    group gap = reads (later (later (later (later (later (later (later (later (later (later (later (later first))))))))))))
+    group gap = reads (later
+        (later (later (later (later (later (later (later (later (later (later (later first))))))))))))
         (takes (λ n. refl) (λ n. refl) (then_ (u []) (takes (λ n. refl) (λ n. refl) given)))
 
-pub enclosed_ready : {names : List Name} {x : Expr} (body : List ℕ → List Piece) → ((gap : List ℕ) (inside : Bool) → expression x gap inside ≡ enclosed body gap inside) →
+pub enclosed_ready : {names : List Name} {x : Expr} (body : List ℕ → List Piece) →
+    ((gap : List ℕ) (inside : Bool) → expression x gap inside ≡ enclosed body gap inside) →
     Eventually (λ l. (gap : List ℕ) → Reads (rule.expression (scope l names)) (body gap) x) → Eventually (Ready names x)
 enclosed_ready {names} {x} body e h = so (λ l p. grouped l names body e p.0 p.1) (both h (deeper h))

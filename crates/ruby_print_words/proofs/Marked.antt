@@ -1,6 +1,7 @@
 -- Sentences with marks, from a place on: what is counted of their marks is what they do and where, not their places.
 use Rattle.std.proofs.Common.{◌≡◌, ℕ, Bool, true, ◌||◌, List, [], ◌∷◌, ◌++◌, map, refl, sym, ap, subst, ◌∙◌, append-nil}
-use Rattle.descent.specs.Grammar.{Prod, give, token, call, mark, only, Item, word, marked, words, Clear, Among, Is, is_given, is_word, is_marked, is_called}
+use Rattle.descent.specs.Grammar.{Prod, give, token, call, mark, only, Item, word, marked, words, Clear, Among, Is}
+use Rattle.descent.specs.Grammar.{is_given, is_word, is_marked, is_called}
 use Rattle.ruby_grammar.specs.Words.{Word}
 use Rattle.ruby_grammar.specs.Marks.{Mark, clash, clashes_any}
 use Rattle.ruby_grammar.specs.Rules.{ruby, Sort, Val, Rule}
@@ -56,12 +57,19 @@ pub record Tells {s : Sort} (n : ℕ) (rule : Rule s) (ps : List Piece) (ds : Li
   pub among : Among form (forms rule)
   pub told : Marked n form ps ds x
 
-pub tells : {s : Sort} {n : ℕ} {rule : Rule s} {form : Prod ruby s} {ps : List Piece} {ds : List Deed} {x : Val s} → Among form (forms rule) → Marked n form ps ds x → Tells n rule ps ds x
+pub tells : {s : Sort} {n : ℕ} {rule : Rule s} {form : Prod ruby s} {ps : List Piece} {ds : List Deed} {x : Val s} →
+    Among form (forms rule) → Marked n form ps ds x → Tells n rule ps ds x
 tells {form} am h = record { form = form; among = am; told = h }
 
 -- a sentence with no marks
 pub unmarked : {s : Sort} {n : ℕ} {p : Prod ruby s} {ps : List Piece} {x : Val s} → Sent p ps x → Marked n p ps [] x
-unmarked {n} {ps} h = record { items = items_at n ps; spelled = words_of_items n ps; does = no_deeds n ps; says = h.at n }
+unmarked {n} {ps} h = record {
+  items = items_at n ps;
+  spelled = words_of_items n ps;
+  does = no_deeds n ps;
+  says =
+      h.at n;
+}
 
 pub tells_of : {s : Sort} {n : ℕ} {rule : Rule s} {ps : List Piece} {x : Val s} → Reads rule ps x → Tells n rule ps [] x
 tells_of r = tells r.among (unmarked r.sent)
@@ -69,14 +77,28 @@ tells_of r = tells r.among (unmarked r.sent)
 pub m_given : {s : Sort} {n : ℕ} {x : Val s} → Marked n (give x) [] [] x
 m_given = record { items = []; spelled = refl; does = refl; says = is_given }
 
-pub m_takes : {s : Sort} {n : ℕ} {test : Word → Bool} {next : Word → Prod ruby s} {p : Piece} {ps : List Piece} {ds : List Deed} {x : Val s} →
-    test (word_at n p) ≡ true → Marked (behind_piece n p) (next (word_at n p)) ps ds x → Marked n (token test next) (p ∷ ps) ds x
-m_takes {n} {p} e h = record { items = word (word_at n p) ∷ h.items; spelled = ap (λ ws. word_at n p ∷ ws) h.spelled; does = h.does; says = is_word e h.says }
+pub m_takes : {s : Sort} {n : ℕ} {test : Word → Bool} {next : Word → Prod ruby s} {p : Piece} {ps : List Piece}
+    {ds : List Deed} {x : Val s} →
+    test (word_at n p) ≡ true → Marked (behind_piece n p) (next (word_at n p)) ps ds x →
+    Marked n (token test next) (p ∷ ps) ds x
+m_takes {n} {p} e h = record {
+  items = word (word_at n p) ∷ h.items;
+  spelled = ap (λ ws. word_at n p ∷ ws) h.spelled;
+  does = h.does;
+  says = is_word e h.says;
+}
 
-pub m_mark : {s : Sort} {n : ℕ} {m : Mark} {p : Prod ruby s} {ps : List Piece} {ds : List Deed} {x : Val s} → Marked n p ps ds x → Marked n (mark m p) ps (deed_of m ∷ ds) x
-m_mark {m} h = record { items = marked m ∷ h.items; spelled = h.spelled; does = ap (λ ds. deed_of m ∷ ds) h.does; says = is_marked h.says }
+pub m_mark : {s : Sort} {n : ℕ} {m : Mark} {p : Prod ruby s} {ps : List Piece} {ds : List Deed} {x : Val s} →
+    Marked n p ps ds x → Marked n (mark m p) ps (deed_of m ∷ ds) x
+m_mark {m} h = record {
+  items = marked m ∷ h.items;
+  spelled = h.spelled;
+  does = ap (λ ds. deed_of m ∷ ds) h.does;
+  says = is_marked h.says;
+}
 
-pub m_then : {s v : Sort} {n : ℕ} {rule : Rule v} {next : Val v → Prod ruby s} {us vs : List Piece} {ds es : List Deed} {y : Val v} {x : Val s} →
+pub m_then : {s v : Sort} {n : ℕ} {rule : Rule v} {next : Val v → Prod ruby s} {us vs : List Piece}
+    {ds es : List Deed} {y : Val v} {x : Val s} →
     Tells n rule us ds y → Marked (end_of n us) (next y) vs es x → Marked n (call rule next) (us ++ vs) (ds ++ es) x
 m_then {n} {us} {vs} {ds} {es} r h = let t = r.told in record {
   items = t.items ++ h.items;
@@ -86,29 +108,36 @@ m_then {n} {us} {vs} {ds} {es} r h = let t = r.told in record {
 }
 
 -- other spellings of the pieces, of what is done and of the value
-pub m_over : {s : Sort} {n : ℕ} {p : Prod ruby s} {ps qs : List Piece} {ds : List Deed} {x : Val s} → ps ≡ qs → Marked n p qs ds x → Marked n p ps ds x
+pub m_over : {s : Sort} {n : ℕ} {p : Prod ruby s} {ps qs : List Piece} {ds : List Deed} {x : Val s} → ps ≡ qs →
+    Marked n p qs ds x → Marked n p ps ds x
 m_over {n} {p} {ds} {x} e h = subst (λ t. Marked n p t ds x) (sym e) h
 
-pub tells_over : {s : Sort} {n : ℕ} {rule : Rule s} {ps qs : List Piece} {ds : List Deed} {x : Val s} → ps ≡ qs → Tells n rule qs ds x → Tells n rule ps ds x
+pub tells_over : {s : Sort} {n : ℕ} {rule : Rule s} {ps qs : List Piece} {ds : List Deed} {x : Val s} → ps ≡ qs →
+    Tells n rule qs ds x → Tells n rule ps ds x
 tells_over {n} {rule} {ds} {x} e h = subst (λ t. Tells n rule t ds x) (sym e) h
 
-m_does : {s : Sort} {n : ℕ} {p : Prod ruby s} {ps : List Piece} {ds es : List Deed} {x : Val s} → ds ≡ es → Marked n p ps ds x → Marked n p ps es x
+m_does : {s : Sort} {n : ℕ} {p : Prod ruby s} {ps : List Piece} {ds es : List Deed} {x : Val s} → ds ≡ es →
+    Marked n p ps ds x → Marked n p ps es x
 m_does {n} {p} {ps} {x} e h = subst (λ t. Marked n p ps t x) e h
 
-pub m_valued : {s : Sort} {n : ℕ} {p : Prod ruby s} {ps : List Piece} {ds : List Deed} {x y : Val s} → x ≡ y → Marked n p ps ds x → Marked n p ps ds y
+pub m_valued : {s : Sort} {n : ℕ} {p : Prod ruby s} {ps : List Piece} {ds : List Deed} {x y : Val s} → x ≡ y →
+    Marked n p ps ds x → Marked n p ps ds y
 m_valued {n} {p} {ps} {ds} e h = subst (λ t. Marked n p ps ds t) e h
 
 -- what follows has no marks
-pub m_then_plain : {s v : Sort} {n : ℕ} {rule : Rule v} {next : Val v → Prod ruby s} {us vs : List Piece} {ds : List Deed} {y : Val v} {x : Val s} →
+pub m_then_plain : {s v : Sort} {n : ℕ} {rule : Rule v} {next : Val v → Prod ruby s} {us vs : List Piece}
+    {ds : List Deed} {y : Val v} {x : Val s} →
     Tells n rule us ds y → Marked (end_of n us) (next y) vs [] x → Marked n (call rule next) (us ++ vs) ds x
 m_then_plain {ds} r h = m_does (append-nil ds) (m_then r h)
 
 -- a rule that comes last
-pub m_ends : {s v : Sort} {n : ℕ} {rule : Rule v} {next : Val v → Prod ruby s} {us : List Piece} {ds : List Deed} {y : Val v} {x : Val s} →
+pub m_ends : {s v : Sort} {n : ℕ} {rule : Rule v} {next : Val v → Prod ruby s} {us : List Piece} {ds : List Deed}
+    {y : Val v} {x : Val s} →
     Tells n rule us ds y → Marked (end_of n us) (next y) [] [] x → Marked n (call rule next) us ds x
 m_ends {us} r h = m_over (sym (append-nil us)) (m_then_plain r h)
 
-pub m_says : {s : Sort} {n : ℕ} {rule : Rule s} {ps : List Piece} {ds : List Deed} {x : Val s} → Tells n rule ps ds x → Marked n (only rule) ps ds x
+pub m_says : {s : Sort} {n : ℕ} {rule : Rule s} {ps : List Piece} {ds : List Deed} {x : Val s} →
+    Tells n rule ps ds x → Marked n (only rule) ps ds x
 m_says r = m_ends r m_given
 
 -- ---- no mark of a sentence clashes
@@ -120,7 +149,8 @@ places_aside : (ms : List Mark) (m : Mark) → clashes_any ms m ≡ clashes_any 
 places_aside [] m = refl
 places_aside (x ∷ xs) m = ap (λ b. clash m x || b) (places_aside xs m)
 
-pub clear_of : (ms : List Mark) (ts : List (Item ruby)) → Apart (map without_place ms) (deeds_in ts) → Clear ruby_grammar ms ts
+pub clear_of : (ms : List Mark) (ts : List (Item ruby)) → Apart (map without_place ms) (deeds_in ts) →
+    Clear ruby_grammar ms ts
 clear_of ms [] h = tt
 clear_of ms (word w ∷ ts) h = clear_of ms ts h
 clear_of ms (marked m ∷ ts) h = (places_aside ms m ∙ h.0, clear_of (m ∷ ms) ts h.1)

@@ -1,5 +1,6 @@
 -- Literals, names and constants.
-use Rattle.std.proofs.Common.{◌≡◌, ℕ, Bool, true, false, ◌==◌, List, [], ◌∷◌, ◌++◌, refl, sym, ap, append_assoc, append-nil, codes, ℤ, None, if◌then◌else◌}
+use Rattle.std.proofs.Common.{◌≡◌, ℕ, Bool, true, false, ◌==◌, List, [], ◌∷◌, ◌++◌, refl, sym, ap, append_assoc}
+use Rattle.std.proofs.Common.{append-nil, codes, ℤ, None, if◌then◌else◌}
 use Rattle.std.specs.Fmt.{signed_decimal}
 use Rattle.ruby_types.specs.declared.tree.ConstRef.{ConstRef}
 use Rattle.ruby_types.specs.declared.tree.Expr.TheVariants as expr
@@ -37,7 +38,8 @@ self_ready names l = primary_ready (λ gap. name gap (codes "self") ∷ []) (pie
     (λ gap. reads (later (later (later (later (later (later first)))))) (takes (λ n. refl) (λ n. refl) given))
 
 pub int_ready : (names : List Name) (l : ℕ) (i : ℤ) → IsInRange i → Ready names (expr.Int i) l
-int_ready names l i h = primary_ready (λ gap. piece gap k.Int (signed_decimal i) ∷ []) (pieces_of (expr.Int i) (expr.outs-Int i))
+int_ready names l i h = primary_ready (λ gap. piece gap k.Int (signed_decimal i) ∷ [])
+    (pieces_of (expr.Int i) (expr.outs-Int i))
     (λ gap. reads first (takes (λ n. refl) (λ n. refl) (valued (ap (λ z. expr.Int z) (number_back i h)) given)))
 
 pub symbol_ready : (names : List Name) (l : ℕ) (n : Name) → Ready names (expr.Sym n) l
@@ -45,33 +47,44 @@ symbol_ready names l n = primary_ready (λ gap. piece gap k.Sym (58 ∷ n) ∷ [
     (λ gap. reads (later (later first)) (takes (λ n. refl) (λ n. refl) given))
 
 pub ivar_ready : (names : List Name) (l : ℕ) (n : Name) → Ready names (expr.Ivar n) l
-ivar_ready names l n = primary_ready (λ gap. piece gap k.Ivar (64 ∷ n) ∷ []) (pieces_of (expr.Ivar n) (expr.outs-Ivar n))
-    (λ gap. reads (later (later (later (later (later (later (later (later first)))))))) (takes (λ n. refl) (λ n. refl) given))
+ivar_ready names l n = primary_ready (λ gap. piece gap k.Ivar (64 ∷ n) ∷ [])
+    (pieces_of (expr.Ivar n) (expr.outs-Ivar n))
+    (λ gap. reads (later (later (later (later (later (later (later (later first))))))))
+    (takes (λ n. refl) (λ n. refl) given))
 
 -- a name that is no reserved word
 pub is_free : (n gap : List ℕ) → name_sign n ≡ 0 → (at : ℕ) → is_name (word_at at (name gap n)) ≡ true
 is_free n gap free at = ap (λ m. m == 0) free
 
-pub local_ready : (names : List Name) (l : ℕ) (n : Name) → name_sign n ≡ 0 → has names n ≡ true → Ready names (expr.Local n) l
+pub local_ready : (names : List Name) (l : ℕ) (n : Name) → name_sign n ≡ 0 → has names n ≡ true →
+    Ready names (expr.Local n) l
 local_ready names l n free known = primary_ready (λ gap. name gap n ∷ []) (pieces_of (expr.Local n) (expr.outs-Local n))
     (λ gap. reads (later (later (later (later (later (later (later first))))))) (takes (is_free n gap free) (λ n. refl)
-    (says (reads (among_behind (opening l (call_from (scope l names) n)) first) (valued (ap (λ b. if b then expr.Local n else expr.Call None n []) known) given)))))
+    (says (reads (among_behind (opening l (call_from (scope l names) n)) first)
+    (valued (ap (λ b. if b then expr.Local n else expr.Call None n []) known) given)))))
 
 -- ---- constants
 
 pub path_reads : (before names : List Name) → Reads (path_rest true None before) (path_more names) (before ++ names)
 path_reads before [] = reads (later first) (valued (sym (append-nil before)) given)
-path_reads before (n ∷ names) = reads first (takes (λ n. refl) (λ n. refl) (takes (λ n. refl) (λ n. refl) (valued (append_assoc before (n ∷ []) names) (says (path_reads (before ++ n ∷ []) names)))))
+path_reads before (n ∷ names) =
+    reads first (takes (λ n. refl) (λ n. refl)
+    (takes (λ n. refl) (λ n. refl)
+    (valued (append_assoc before (n ∷ []) names) (says (path_reads (before ++ n ∷ []) names)))))
 
 constant_read : (top : Bool) (names : List Name) (gap : List ℕ) → IsPath names →
-    Reads (rule.constant None) (if top then colons gap ∷ path [] names else path gap names) (record { top = top; path = names })
+    Reads (rule.constant None) (if top then colons gap ∷ path [] names else path gap names)
+    (record { top = top; path = names })
 constant_read top [] gap h = absurd h
-constant_read true (n ∷ names) gap h = reads first (takes (λ n. refl) (λ n. refl) (takes (λ n. refl) (λ n. refl) (ends (path_reads (n ∷ []) names) given)))
-constant_read false (n ∷ names) gap h = reads (later first) (takes (λ n. refl) (λ n. refl) (ends (path_reads (n ∷ []) names) given))
+constant_read true (n ∷ names) gap h =
+    reads first (takes (λ n. refl) (λ n. refl) (takes (λ n. refl) (λ n. refl) (ends (path_reads (n ∷ []) names) given)))
+constant_read false (n ∷ names) gap h =
+    reads (later first) (takes (λ n. refl) (λ n. refl) (ends (path_reads (n ∷ []) names) given))
 
 pub constant_reads : (c : ConstRef) (gap : List ℕ) → IsConstant c → Reads (rule.constant None) (constant gap c) c
 constant_reads c gap h = constant_read c.top c.path gap h
 
 pub constant_ready : (names : List Name) (l : ℕ) (c : ConstRef) → IsConstant c → Ready names (expr.Const c) l
 constant_ready names l c h = primary_ready (λ gap. constant gap c) (pieces_of (expr.Const c) (expr.outs-Const c))
-    (λ gap. reads (later (later (later (later (later (later (later (later (later first))))))))) (ends (constant_reads c gap h) given))
+    (λ gap. reads (later (later (later (later (later (later (later (later (later first)))))))))
+    (ends (constant_reads c gap h) given))

@@ -14,7 +14,8 @@ plain b (c ∷ cs) h = ap (λ t. if t then escaped c ∷ double_text cs else b �
 abbrev Read : ℕ → List ℕ → List ℕ → Type 0
 Read b bs text = double_text (text ++ bs) ≡ b ∷ double_text bs
 
-pick : (b : ℕ) (bs : List ℕ) (t : Bool) (x y : List ℕ) → (t ≡ true → Read b bs x) → (t ≡ false → Read b bs y) → Read b bs (if t then x else y)
+pick : (b : ℕ) (bs : List ℕ) (t : Bool) (x y : List ℕ) → (t ≡ true → Read b bs x) → (t ≡ false → Read b bs y) →
+    Read b bs (if t then x else y)
 pick b bs true x y h k = h refl
 pick b bs false x y h k = k refl
 

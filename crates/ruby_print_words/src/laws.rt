@@ -10,5 +10,6 @@ ghost use Rattle.ruby_print_pieces.specs.FormedFiles.{FormedFile};
 
 /// The words of a printed tree are a file, and this tree is its tree, where levels enough may nest.
 pub fn printed_words_are_a_file()
-    ensures { (tree : FileTree) → FormedFile tree → (levels : ℕ) × Spells ruby_grammar (file levels false) (words_at 0 (file_pieces tree)) tree }
+    ensures { (tree : FileTree) → FormedFile tree → (levels : ℕ)
+        × Spells ruby_grammar (file levels false) (words_at 0 (file_pieces tree)) tree }
 {}

@@ -1,5 +1,7 @@
 -- Nothing that the bytes may begin with is longer than the lexeme.
-use Rattle.std.proofs.Common.{◌≡◌, ℕ, suc, ◌+◌, ◌<◌, ◌≤◌, List, [], ◌∷◌, ◌++◌, length, refl, ap, sym, ◌∙◌, drop, arith, true, false, subst, length-append, append_assoc, inl, inr, ◌⊎◌, Option, Some, ◌==◌, ◌&&◌, not, nat_lt}
+use Rattle.std.proofs.Common.{◌≡◌, ℕ, suc, ◌+◌, ◌<◌, ◌≤◌, List, [], ◌∷◌, ◌++◌, length, refl, ap, sym, ◌∙◌, drop, arith}
+use Rattle.std.proofs.Common.{true, false, subst, length-append, append_assoc, inl, inr, ◌⊎◌, Option, Some, ◌==◌, ◌&&◌}
+use Rattle.std.proofs.Common.{not, nat_lt}
 use Rattle.std.proofs.lemmas.Bool.{eqb-true}
 use Rattle.std.proofs.lemmas.Bool.Decides.{nat_tests}
 use Rattle.std.specs.List.{prefix_len}
@@ -11,14 +13,22 @@ use Rattle.ruby_token.specs.declared.opens.Open.{Open}
 use Rattle.ruby_token.specs.declared.lexeme.Lexeme.{Lexeme}
 use Rattle.ruby_token.specs.declared.lexeme.Lexeme.TheVariants as l
 use Rattle.ruby_token.specs.declared.state.State.{State}
-use Rattle.ruby_token.specs.Bytes.{is_word, is_lower, is_white, not_lf, is_line_end, is_quote, is_suffix, next_is, next_passes}
+use Rattle.ruby_token.specs.Bytes.{is_word, is_lower, is_white, not_lf, is_line_end, is_quote, is_suffix, next_is}
+use Rattle.ruby_token.specs.Bytes.{next_passes}
 use Rattle.ruby_token.specs.Operators.{operators}
 use Rattle.ruby_token.specs.Opens.{in_inside}
 use Rattle.ruby_token.specs.State.{ends_value, in_brackets, drops}
-use Rattle.ruby_token.specs.Lexemes.{NameTail, plain, suffixed, Digits, no_more, digit, underscore, Number, zero_alone, number, Row, is_close_brace, What, gap, token, InCode, white, comment, dropped, line, lines, name, constant, ivar, label, symbol, symbol_constant, int, negative, quote, inside_close, operator, Plain, nothing, byte, hash, escape, InDouble, piece, closing, opening, InSingle, piece_single, closing_single}
+use Rattle.ruby_token.specs.Lexemes.{NameTail, plain, suffixed, Digits, no_more, digit, underscore, Number, zero_alone}
+use Rattle.ruby_token.specs.Lexemes.{number, Row, is_close_brace, What, gap, token, InCode, white, comment, dropped}
+use Rattle.ruby_token.specs.Lexemes.{line, lines, name, constant, ivar, label, symbol, symbol_constant, int, negative}
+use Rattle.ruby_token.specs.Lexemes.{quote, inside_close, operator, Plain, nothing, byte, hash, escape, InDouble, piece}
+use Rattle.ruby_token.specs.Lexemes.{closing, opening, InSingle, piece_single, closing_single}
 use Rattle.ruby_token.specs.Lengths.{name_len, digits_len, lines_len, piece_from, piece_len, single_len}
-use Rattle.ruby_token.specs.Steps.{operator_at, double_lexeme, single_lexeme, word_lexeme, int_lexeme, code_lexeme, mark_lexeme, colon_at, operator_lexeme, operator_by, minus_lexeme, at_lexeme, colon_lexeme}
-use Rattle.ruby_token.proofs.Longest.{le_cases, and_left, Found, operator_longest, operator_ok, text_ok, Mark, ok_mark, ok_next}
+use Rattle.ruby_token.specs.Steps.{operator_at, double_lexeme, single_lexeme, word_lexeme, int_lexeme, code_lexeme}
+use Rattle.ruby_token.specs.Steps.{mark_lexeme, colon_at, operator_lexeme, operator_by, minus_lexeme, at_lexeme}
+use Rattle.ruby_token.specs.Steps.{colon_lexeme}
+use Rattle.ruby_token.proofs.Longest.{le_cases, and_left, Found, operator_longest, operator_ok, text_ok, Mark, ok_mark}
+use Rattle.ruby_token.proofs.Longest.{ok_next}
 use Rattle.ruby_token.proofs.Words.{split_if, at_most, exactly, drop_front}
 use Rattle.ruby_token.proofs.Runs.{run_len, white_is}
 use Rattle.ruby_token.proofs.Singles.{single_longest}
@@ -74,7 +84,8 @@ tail_exact t r (suffixed u q e s n) =
     let d : drop (length u) (u ++ q ∷ 58 ∷ r) ≡ q ∷ 58 ∷ r = drop_front u (q ∷ 58 ∷ r) in
     rw (a, p, d, s, length-append) refl
 
-best_label : (t r : List ℕ) → NameTail t (58 ∷ r) → next_is 58 r ≡ false → word_lexeme (t ++ 58 ∷ r) ≡ l.Token k.Label (1 + length t + 1)
+best_label : (t r : List ℕ) → NameTail t (58 ∷ r) → next_is 58 r ≡ false →
+    word_lexeme (t ++ 58 ∷ r) ≡ l.Token k.Label (1 + length t + 1)
 best_label t r h n =
     let e : name_len (t ++ 58 ∷ r) ≡ length t = tail_exact t r h in
     let d : drop (length t) (t ++ 58 ∷ r) ≡ 58 ∷ r = drop_front t (58 ∷ r) in
@@ -91,7 +102,8 @@ digits_longest t r (underscore {b = b} {t = u} h d) =
     let i : length u ≤ digits_len (u ++ r) = digits_longest u r d in
     rw h (omega (arith, i))
 
-best_number : (sign n : ℕ) (b : ℕ) (t r : List ℕ) → Number (b ∷ t) → n ≡ sign + suc (length t) → Best (int_lexeme sign b (t ++ r)) (token k.Int) n
+best_number : (sign n : ℕ) (b : ℕ) (t r : List ℕ) → Number (b ∷ t) → n ≡ sign + suc (length t) →
+    Best (int_lexeme sign b (t ++ r)) (token k.Int) n
 best_number sign n b t r zero_alone e = best_token k.Int n (sign + 1) (omega arith)
 best_number sign n b t r (number h z d) e =
     let i : length t ≤ digits_len (t ++ r) = digits_longest t r d in
@@ -129,16 +141,20 @@ abbrev pub front_code : State → List ℕ → Lexeme
 front_code s [] = l.Nothing
 front_code s (b ∷ bs) = code_lexeme s b bs
 
-best_found : (opens : List Open) (o : Option (Op × ℕ)) (t : List ℕ) (x : Op) → Found o t x → (is_close_brace x && in_inside opens) ≡ false → Best (operator_by opens o) (token (k.Op x)) (length t)
+best_found : (opens : List Open) (o : Option (Op × ℕ)) (t : List ℕ) (x : Op) → Found o t x →
+    (is_close_brace x && in_inside opens) ≡ false → Best (operator_by opens o) (token (k.Op x)) (length t)
 best_found opens o t x f c =
     let g : o ≡ Some f.what = f.is in
     rw g (elim f.best [
-      | inl a ↦ split_if (λ y. Best y (token (k.Op x)) (length t)) (is_close_brace f.what.0 && in_inside opens) _ _ (λ v. inl a) (λ v. inl a)
+      | inl a ↦ split_if (λ y. Best y (token (k.Op x)) (length t)) (is_close_brace f.what.0 && in_inside opens) _ _
+          (λ v. inl a) (λ v. inl a)
       | inr e ↦ inr (rw (e, c) refl)
     ])
 
 -- after a minus
-best_minus : (opens : List Open) (x : Op) (cs r : List ℕ) → next_passes is_word cs ≡ false → Best (operator_lexeme opens (45 ∷ (cs ++ r))) (token (k.Op x)) (suc (length cs)) → Best (minus_lexeme opens (cs ++ r)) (token (k.Op x)) (suc (length cs))
+best_minus : (opens : List Open) (x : Op) (cs r : List ℕ) → next_passes is_word cs ≡ false →
+    Best (operator_lexeme opens (45 ∷ (cs ++ r))) (token (k.Op x)) (suc (length cs)) →
+    Best (minus_lexeme opens (cs ++ r)) (token (k.Op x)) (suc (length cs))
 best_minus opens x [] [] d h = h
 best_minus opens x [] (b ∷ r) d h = split_if (λ y. Best y (token (k.Op x)) 1) (is_ascii_digit b) _ _
     (λ v. split_if (λ y. Best y (token (k.Op x)) 1) (b == 48) _ _ (λ z. inl (omega arith)) (λ z. inl (omega arith)))
@@ -146,13 +162,18 @@ best_minus opens x [] (b ∷ r) d h = split_if (λ y. Best y (token (k.Op x)) 1)
 best_minus opens x (b ∷ cs) r d h = let d' : is_ascii_digit b ≡ false = word_of_digit b d in rw d' h
 
 -- after a `@`
-best_at : (opens : List Open) (x : Op) (cs r : List ℕ) → next_passes is_word cs ≡ false → Best (operator_lexeme opens (64 ∷ (cs ++ r))) (token (k.Op x)) (suc (length cs)) → Best (at_lexeme opens (cs ++ r)) (token (k.Op x)) (suc (length cs))
+best_at : (opens : List Open) (x : Op) (cs r : List ℕ) → next_passes is_word cs ≡ false →
+    Best (operator_lexeme opens (64 ∷ (cs ++ r))) (token (k.Op x)) (suc (length cs)) →
+    Best (at_lexeme opens (cs ++ r)) (token (k.Op x)) (suc (length cs))
 best_at opens x [] [] d h = h
-best_at opens x [] (b ∷ r) d h = split_if (λ y. Best y (token (k.Op x)) 1) (is_lower b) _ _ (λ v. inl (omega arith)) (λ v. h)
+best_at opens x [] (b ∷ r) d h = split_if (λ y. Best y (token (k.Op x)) 1) (is_lower b) _ _ (λ v. inl (omega arith))
+    (λ v. h)
 best_at opens x (b ∷ cs) r d h = let d' : is_lower b ≡ false = word_of_lower b d in rw d' h
 
 -- after a colon
-best_colon : (opens : List Open) (x : Op) (cs r : List ℕ) → next_passes is_word cs ≡ false → Best (operator_lexeme opens (58 ∷ (cs ++ r))) (token (k.Op x)) (suc (length cs)) → Best (colon_lexeme opens (cs ++ r)) (token (k.Op x)) (suc (length cs))
+best_colon : (opens : List Open) (x : Op) (cs r : List ℕ) → next_passes is_word cs ≡ false →
+    Best (operator_lexeme opens (58 ∷ (cs ++ r))) (token (k.Op x)) (suc (length cs)) →
+    Best (colon_lexeme opens (cs ++ r)) (token (k.Op x)) (suc (length cs))
 best_colon opens x [] [] d h = h
 best_colon opens x [] (b ∷ r) d h = split_if (λ y. Best y (token (k.Op x)) 1) (is_lower b) _ _
     (λ v. inl (omega arith))
@@ -162,10 +183,13 @@ best_colon opens x (b ∷ cs) r d h =
     let d2 : is_ascii_uppercase b ≡ false = word_of_upper b d in
     rw (d1, d2) h
 
-best_mark : (s : State) (x : Op) (c : ℕ) (cs r : List ℕ) → next_passes is_word cs ≡ false → Best (operator_lexeme s.opens (c ∷ (cs ++ r))) (token (k.Op x)) (suc (length cs)) → Best (mark_lexeme s c (cs ++ r)) (token (k.Op x)) (suc (length cs))
+best_mark : (s : State) (x : Op) (c : ℕ) (cs r : List ℕ) → next_passes is_word cs ≡ false →
+    Best (operator_lexeme s.opens (c ∷ (cs ++ r))) (token (k.Op x)) (suc (length cs)) →
+    Best (mark_lexeme s c (cs ++ r)) (token (k.Op x)) (suc (length cs))
 best_mark s x c cs r d h =
     let P : Lexeme → Type 0 = λ y. Best y (token (k.Op x)) (suc (length cs)) in
-    let by : (b : ℕ) → c ≡ b → Best (operator_lexeme s.opens (b ∷ (cs ++ r))) (token (k.Op x)) (suc (length cs)) = λ b e. subst (λ y. Best (operator_lexeme s.opens (y ∷ (cs ++ r))) (token (k.Op x)) (suc (length cs))) e h in
+    let by : (b : ℕ) → c ≡ b → Best (operator_lexeme s.opens (b ∷ (cs ++ r))) (token (k.Op x)) (suc (length cs)) =
+    λ b e. subst (λ y. Best (operator_lexeme s.opens (y ∷ (cs ++ r))) (token (k.Op x)) (suc (length cs))) e h in
     split_if P ((c == 45) && not (ends_value s.after)) _ _
     (λ v. best_minus s.opens x cs r d (by 45 (eqb-true c 45 (and_left (c == 45) _ v))))
     (λ v1. split_if P (c == 64) _ _
@@ -174,7 +198,9 @@ best_mark s x c cs r d h =
     (λ v. best_colon s.opens x cs r d (by 58 (eqb-true c 58 (and_left (c == 58) _ v))))
     (λ v3. h)))
 
-best_code : (s : State) (x : Op) (c : ℕ) (cs r : List ℕ) → Mark c → next_passes is_word cs ≡ false → Best (operator_lexeme s.opens (c ∷ (cs ++ r))) (token (k.Op x)) (suc (length cs)) → Best (code_lexeme s c (cs ++ r)) (token (k.Op x)) (suc (length cs))
+best_code : (s : State) (x : Op) (c : ℕ) (cs r : List ℕ) → Mark c → next_passes is_word cs ≡ false →
+    Best (operator_lexeme s.opens (c ∷ (cs ++ r))) (token (k.Op x)) (suc (length cs)) →
+    Best (code_lexeme s c (cs ++ r)) (token (k.Op x)) (suc (length cs))
 best_code s x c cs r m d h =
     let a1 : is_lower c ≡ false = m.lower in
     let a2 : is_ascii_uppercase c ≡ false = m.upper in
@@ -185,34 +211,45 @@ best_code s x c cs r m d h =
     let a7 : is_quote c ≡ false = m.quote in
     rw (a1, a2, a3, a4, a5, a6, a7) (best_mark s x c cs r d h)
 
-best_row : (s : State) (x : Op) (t r : List ℕ) → Row operators t x → text_ok t ≡ true → (is_close_brace x && in_inside s.opens) ≡ false → Best (front_code s (t ++ r)) (token (k.Op x)) (length t)
+best_row : (s : State) (x : Op) (t r : List ℕ) → Row operators t x → text_ok t ≡ true →
+    (is_close_brace x && in_inside s.opens) ≡ false → Best (front_code s (t ++ r)) (token (k.Op x)) (length t)
 best_row s x [] r h o c = cc
-best_row s x (b ∷ cs) r h o c = best_code s x b cs r (ok_mark b cs o) (ok_next b cs o) (best_found s.opens (operator_at (b ∷ (cs ++ r))) (b ∷ cs) x (operator_longest (b ∷ cs) r x h) c)
+best_row s x (b ∷ cs) r h o c = best_code s x b cs r (ok_mark b cs o) (ok_next b cs o)
+    (best_found s.opens (operator_at (b ∷ (cs ++ r))) (b ∷ cs) x (operator_longest (b ∷ cs) r x h) c)
 
-close_brace_is : (opens : List Open) (r : List ℕ) → in_inside opens ≡ true → operator_lexeme opens (125 ∷ r) ≡ l.Token k.InsideClose 1
+close_brace_is : (opens : List Open) (r : List ℕ) → in_inside opens ≡ true →
+    operator_lexeme opens (125 ∷ r) ≡ l.Token k.InsideClose 1
 unfolding operator_at
 close_brace_is opens r h = rw h refl
 
 -- ---- in code
 
-best_line : (s : State) (b n : ℕ) (x : List ℕ) → is_line_end b ≡ true → drops s b ≡ false → n ≤ lines_len (in_brackets s) false x → Best (code_lexeme s b x) (token k.Line) (suc n)
+best_line : (s : State) (b n : ℕ) (x : List ℕ) → is_line_end b ≡ true → drops s b ≡ false →
+    n ≤ lines_len (in_brackets s) false x → Best (code_lexeme s b x) (token k.Line) (suc n)
 best_line s b n x h d i = elim (line_is b h) [
-  | inl e ↦ let d' : drops s 10 ≡ false = rw e at d in rw (e, d') (best_token k.Line (suc n) (1 + lines_len (in_brackets s) false x) (omega arith))
+  | inl e ↦ let d' : drops s 10 ≡ false = rw e at d in
+      rw (e, d') (best_token k.Line (suc n) (1 + lines_len (in_brackets s) false x) (omega arith))
   | inr e ↦ rw e (best_token k.Line (suc n) (1 + lines_len (in_brackets s) false x) (omega arith))
 ]
 
-best_white : (s : State) (b n : ℕ) (x : List ℕ) → is_white b ≡ true → n ≤ prefix_len is_white x → Best (code_lexeme s b x) gap (suc n)
+best_white : (s : State) (b n : ℕ) (x : List ℕ) → is_white b ≡ true → n ≤ prefix_len is_white x →
+    Best (code_lexeme s b x) gap (suc n)
 best_white s b n x h i = elim (white_is b h) [
-  | inl e ↦ elim e [ inl e' ↦ rw e' (best_gap (suc n) (1 + prefix_len is_white x) (omega arith)) | inr e' ↦ rw e' (best_gap (suc n) (1 + prefix_len is_white x) (omega arith)) ]
+  | inl e ↦ elim e [
+    | inl e' ↦ rw e' (best_gap (suc n) (1 + prefix_len is_white x) (omega arith))
+    | inr e' ↦ rw e' (best_gap (suc n) (1 + prefix_len is_white x) (omega arith))
+  ]
   | inr e' ↦ rw e' (best_gap (suc n) (1 + prefix_len is_white x) (omega arith))
 ]
 
 pub best_outside : (s : State) (w : What) (t r : List ℕ) → InCode s w t r → Best (front_code s (t ++ r)) w (length t)
 best_outside s w t r (white {b = b} {t = u} h e) = best_white s b (length u) (u ++ r) h (at_most is_white u r e)
-best_outside s w t r (comment {t = u} h) = best_gap _ _ (let i : length u ≤ prefix_len not_lf (u ++ r) = at_most not_lf u r h in omega (arith, i))
+best_outside s w t r (comment {t = u} h) =
+    best_gap _ _ (let i : length u ≤ prefix_len not_lf (u ++ r) = at_most not_lf u r h in omega (arith, i))
 best_outside s w t r (dropped d) = rw d (inr refl)
 best_outside s w t r (line {b = b} h d) = best_line s b 0 r h d (omega arith)
-best_outside s w t r (lines {b = b} {t = u} h d e) = best_line s b (length u) (u ++ r) h d (run_len (in_brackets s) u r e)
+best_outside s w t r (lines {b = b} {t = u} h d e) = best_line s b (length u) (u ++ r) h d
+    (run_len (in_brackets s) u r e)
 best_outside s w t r (name {b = b} {t = u} h n) = rw h (best_name (u ++ r) (length u) (tail_len u r n))
 best_outside s w t r (label {b = b} {t = u} h n m) =
     let a : (u ++ 58 ∷ []) ++ r ≡ u ++ 58 ∷ r = append_assoc u (58 ∷ []) r in

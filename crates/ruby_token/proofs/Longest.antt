@@ -1,5 +1,6 @@
 -- The operator found is the longest one.
-use Rattle.std.proofs.Common.{◌≡◌, ℕ, zero, suc, ◌<◌, ◌≤◌, List, [], ◌∷◌, ◌++◌, Option, Some, length, refl, ap, sym, take, arith, true, false, Bool, inl, inr, ◌⊎◌, ◌==◌, ◌&&◌, ◌||◌, not, nat_le, nat_eq}
+use Rattle.std.proofs.Common.{◌≡◌, ℕ, zero, suc, ◌<◌, ◌≤◌, List, [], ◌∷◌, ◌++◌, Option, Some, length, refl, ap, sym}
+use Rattle.std.proofs.Common.{take, arith, true, false, Bool, inl, inr, ◌⊎◌, ◌==◌, ◌&&◌, ◌||◌, not, nat_le, nat_eq}
 use Rattle.std.proofs.lemmas.Bool.{eq-eqb}
 use Rattle.std.proofs.lemmas.Bool.Decides.{nat_tests}
 use Rattle.std.proofs.lemmas.List.{take-append-le}
@@ -43,7 +44,8 @@ ranked [] = true
 ranked (q ∷ rs) = below q rs && ranked rs
 
 abbrev pub is_mark : ℕ → Bool
-is_mark c = not (is_lower c || (is_ascii_uppercase c || (is_ascii_digit c || (is_white c || ((c == 35) || (is_line_end c || is_quote c))))))
+is_mark c = not (is_lower c ||
+    (is_ascii_uppercase c || (is_ascii_digit c || (is_white c || ((c == 35) || (is_line_end c || is_quote c))))))
 
 abbrev pub text_ok : List ℕ → Bool
 text_ok [] = false
@@ -57,9 +59,12 @@ row_ok : (rs : List (List ℕ × Op)) (t : List ℕ) (x : Op) → Row rs t x →
 row_ok _ t x (first_row {rs = rs}) h = and_left (text_ok t) (all_ok rs) h
 row_ok _ t x (later_row {q = q} {rs = rs} m) h = row_ok rs t x m (and_right (text_ok q.0) (all_ok rs) h)
 
-row_below : (rs : List (List ℕ × Op)) (q : List ℕ × Op) (t : List ℕ) (x : Op) → Row rs t x → below q rs ≡ true → (nat_le (length t) (length q.0) && not (clash t q.0)) ≡ true
-row_below _ q t x (first_row {rs = rs}) h = and_left (nat_le (length t) (length q.0) && not (clash t q.0)) (below q rs) h
-row_below _ q t x (later_row {q = p} {rs = rs} m) h = row_below rs q t x m (and_right (nat_le (length p.0) (length q.0) && not (clash p.0 q.0)) (below q rs) h)
+row_below : (rs : List (List ℕ × Op)) (q : List ℕ × Op) (t : List ℕ) (x : Op) → Row rs t x → below q rs ≡ true →
+    (nat_le (length t) (length q.0) && not (clash t q.0)) ≡ true
+row_below _ q t x (first_row {rs = rs}) h = and_left (nat_le (length t) (length q.0) && not (clash t q.0))
+    (below q rs) h
+row_below _ q t x (later_row {q = p} {rs = rs} m) h =
+    row_below rs q t x m (and_right (nat_le (length p.0) (length q.0) && not (clash p.0 q.0)) (below q rs) h)
 
 begins : (t r : List ℕ) → starts_with nat_eq (t ++ r) t ≡ true
 begins [] r = refl
@@ -70,14 +75,18 @@ pub record Found (o : Option (Op × ℕ)) (t : List ℕ) (x : Op) : Type 0 where
   pub is : o ≡ Some what
   pub best : (length t < what.1) ⊎ (what ≡ (x, length t))
 
-later : (v : Bool) (q : List ℕ × Op) (rs : List (List ℕ × Op)) (t r : List ℕ) (x : Op) → v ≡ starts_with nat_eq (t ++ r) q.0 → (nat_le (length t) (length q.0) && not (clash t q.0)) ≡ true → Found (first_in rs (t ++ r)) t x → Found (first_in (q ∷ rs) (t ++ r)) t x
-later false q rs t r x e h f = record { what = f.what; is = (let g : starts_with nat_eq (t ++ r) q.0 ≡ false = sym e in rw g f.is); best = f.best }
+later : (v : Bool) (q : List ℕ × Op) (rs : List (List ℕ × Op)) (t r : List ℕ) (x : Op) →
+    v ≡ starts_with nat_eq (t ++ r) q.0 → (nat_le (length t) (length q.0) && not (clash t q.0)) ≡ true →
+    Found (first_in rs (t ++ r)) t x → Found (first_in (q ∷ rs) (t ++ r)) t x
+later false q rs t r x e h f =
+    record { what = f.what; is = (let g : starts_with nat_eq (t ++ r) q.0 ≡ false = sym e in rw g f.is); best = f.best }
 later true q rs t r x e h f =
     let g : starts_with nat_eq (t ++ r) q.0 ≡ true = sym e in
     let a : nat_le (length t) (length q.0) ≡ true = and_left _ _ h in
     let b : clash t q.0 ≡ false = not_true _ (and_right (nat_le (length t) (length q.0)) _ h) in
     let le : length t ≤ length q.0 = grind (arith, nat_tests) in
-    let far : (length t < length q.0) ⊎ ((q.1, length q.0) ≡ (x, length t)) = elim (le_cases (length t) (length q.0) le) [
+    let far : (length t < length q.0) ⊎ ((q.1, length q.0) ≡ (x, length t)) =
+    elim (le_cases (length t) (length q.0) le) [
       | inl l ↦ inl l
       | inr l ↦
           let le2 : length q.0 ≤ length t = omega arith in
@@ -89,10 +98,18 @@ later true q rs t r x e h f =
     ] in
     record { what = (q.1, length q.0); is = rw g refl; best = far }
 
-pub longest_row : (rs : List (List ℕ × Op)) (t r : List ℕ) (x : Op) → Row rs t x → ranked rs ≡ true → Found (first_in rs (t ++ r)) t x
-longest_row _ t r x (first_row {rs = rs}) h = record { what = (x, length t); is = (let g : starts_with nat_eq (t ++ r) t ≡ true = begins t r in rw g refl); best = inr refl }
+pub longest_row : (rs : List (List ℕ × Op)) (t r : List ℕ) (x : Op) → Row rs t x → ranked rs ≡ true →
+    Found (first_in rs (t ++ r)) t x
+longest_row _ t r x (first_row {rs = rs}) h =
+    record {
+      what = (x, length t);
+      is = (let g : starts_with nat_eq (t ++ r) t ≡ true = begins t r in rw g refl);
+      best = inr refl;
+    }
 longest_row _ t r x (later_row {q = q} {rs = rs} m) h =
-    later (starts_with nat_eq (t ++ r) q.0) q rs t r x refl (row_below rs q t x m (and_left (below q rs) (ranked rs) h)) (longest_row rs t r x m (and_right (below q rs) (ranked rs) h))
+    later (starts_with nat_eq (t ++ r) q.0) q rs t r x refl
+    (row_below rs q t x m (and_left (below q rs) (ranked rs) h))
+    (longest_row rs t r x m (and_right (below q rs) (ranked rs) h))
 
 pub operator_ok : (t : List ℕ) (x : Op) → Row operators t x → text_ok t ≡ true
 operator_ok t x m = row_ok operators t x m refl

@@ -1,5 +1,7 @@
 -- How reading goes on from one lexeme to the next.
-use Rattle.std.proofs.Common.{◌≡◌, ℕ, zero, suc, ◌+◌, ◌-◌, ◌<◌, ◌≤◌, Bool, true, false, List, [], ◌∷◌, ◌++◌, length, refl, ap, sym, ◌∙◌, take, drop, arith, append_assoc, append-nil, add-zero, length-drop, Option, Some, None}
+use Rattle.std.proofs.Common.{◌≡◌, ℕ, zero, suc, ◌+◌, ◌-◌, ◌<◌, ◌≤◌, Bool, true, false, List, [], ◌∷◌, ◌++◌, length}
+use Rattle.std.proofs.Common.{refl, ap, sym, ◌∙◌, take, drop, arith, append_assoc, append-nil, add-zero, length-drop}
+use Rattle.std.proofs.Common.{Option, Some, None}
 use Rattle.std.proofs.lemmas.Grind.{common_steps}
 use Rattle.ruby_token.specs.declared.token.TokenKind.{TokenKind}
 use Rattle.ruby_token.specs.declared.token.Token.{Token}
@@ -35,7 +37,8 @@ put_fault ts (Some e) = ap (λ x. fault x e.kind e.at) (append-nil ts)
 
 -- ---- one lexeme
 
-pub read_gap : (v : Bool) (s : State) (n m : ℕ) (bs : List ℕ) → lexeme s bs ≡ l.Gap m → 0 < m → 0 < length bs → read v s n 0 bs ≡ read v (state_past (take m bs) s) (n + m) 0 (drop m bs)
+pub read_gap : (v : Bool) (s : State) (n m : ℕ) (bs : List ℕ) → lexeme s bs ≡ l.Gap m → 0 < m → 0 < length bs →
+    read v s n 0 bs ≡ read v (state_past (take m bs) s) (n + m) 0 (drop m bs)
 read_gap v s n m [] e p q = absurd (omega arith)
 read_gap v s n zero (b ∷ bs) e p q = absurd (omega arith)
 read_gap v s n (suc k) (b ∷ bs) e p q =
@@ -46,25 +49,32 @@ read_gap v s n (suc k) (b ∷ bs) e p q =
 abbrev pub token_at : TokenKind → ℕ → ℕ → Token
 token_at kind n m = record { kind = kind; from = n; to = n + m }
 
-pub read_token : (v : Bool) (s : State) (n m : ℕ) (kind : TokenKind) (bs : List ℕ) → lexeme s bs ≡ l.Token kind m → 0 < m → 0 < length bs → is_big kind (take m bs) ≡ false → read v s n 0 bs ≡ put (token_at kind n m ∷ []) (read v (state_after kind (take m bs) n s) (n + m) 0 (drop m bs))
+pub read_token : (v : Bool) (s : State) (n m : ℕ) (kind : TokenKind) (bs : List ℕ) → lexeme s bs ≡ l.Token kind m →
+    0 < m → 0 < length bs → is_big kind (take m bs) ≡ false →
+    read v s n 0 bs ≡ put (token_at kind n m ∷ []) (read v (state_after kind (take m bs) n s) (n + m) 0 (drop m bs))
 read_token v s n m kind [] e p q i = absurd (omega arith)
 read_token v s n zero kind (b ∷ bs) e p q i = absurd (omega arith)
 read_token v s n (suc k) kind (b ∷ bs) e p q i =
     let g : n + 1 + k ≡ n + suc k = omega arith in
     let s' : State = state_after kind (take (suc k) (b ∷ bs)) n s in
-    rw (e, read, i) (ap (put (token_at kind n (suc k) ∷ [])) (skip v s' (n + 1) k bs ∙ ap (λ m. read v s' m 0 (drop k bs)) g))
+    rw (e, read, i) (ap (put (token_at kind n (suc k) ∷ [])) (skip v s' (n + 1) k bs
+    ∙ ap (λ m. read v s' m 0 (drop k bs)) g))
 
-pub read_big : (v : Bool) (s : State) (n m : ℕ) (kind : TokenKind) (bs : List ℕ) → lexeme s bs ≡ l.Token kind m → 0 < length bs → is_big kind (take m bs) ≡ true → read v s n 0 bs ≡ fault [] f.BigNumber n
+pub read_big : (v : Bool) (s : State) (n m : ℕ) (kind : TokenKind) (bs : List ℕ) → lexeme s bs ≡ l.Token kind m →
+    0 < length bs → is_big kind (take m bs) ≡ true → read v s n 0 bs ≡ fault [] f.BigNumber n
 read_big v s n m kind [] e q i = absurd (omega arith)
 read_big v s n m kind (b ∷ bs) e q i = rw (e, read, i) refl
 
-pub read_nothing : (v : Bool) (s : State) (n : ℕ) (bs : List ℕ) → lexeme s bs ≡ l.Nothing → 0 < length bs → read v s n 0 bs ≡ stuck_at v s n bs
+pub read_nothing : (v : Bool) (s : State) (n : ℕ) (bs : List ℕ) → lexeme s bs ≡ l.Nothing → 0 < length bs →
+    read v s n 0 bs ≡ stuck_at v s n bs
 read_nothing v s n [] e q = absurd (omega arith)
 read_nothing v s n (b ∷ bs) e q = rw (e, read) refl
 
 -- ---- what the loop keeps
 
-pub along_gap : (v : Bool) (s s' : State) (ts : List Token) (n m : ℕ) (bs rest : List ℕ) (o : Outcome) → l.Gap m ≡ lexeme s rest → rest ≡ drop n bs → 0 < m → n < length bs → s' ≡ state_past (take m rest) s → put ts (read v s n 0 (drop n bs)) ≡ o → put ts (read v s' (n + m) 0 (drop (n + m) bs)) ≡ o
+pub along_gap : (v : Bool) (s s' : State) (ts : List Token) (n m : ℕ) (bs rest : List ℕ) (o : Outcome) →
+    l.Gap m ≡ lexeme s rest → rest ≡ drop n bs → 0 < m → n < length bs → s' ≡ state_past (take m rest) s →
+    put ts (read v s n 0 (drop n bs)) ≡ o → put ts (read v s' (n + m) 0 (drop (n + m) bs)) ≡ o
 along_gap v s s' ts n m bs rest o e r p q es h =
     let d : drop m (drop n bs) ≡ drop (n + m) bs = grind (arith, common_steps) in
     let q' : 0 < length (drop n bs) = rw length-drop (omega arith) in
@@ -74,7 +84,10 @@ along_gap v s s' ts n m bs rest o e r p q es h =
     ∙ ap (λ x. put ts (read v x (n + m) 0 (drop m (drop n bs)))) es'
     ∙ ap (put ts) (sym (read_gap v s n m (drop n bs) e' p q')) ∙ h
 
-pub along_token : (v : Bool) (s s' : State) (ts us : List Token) (kind : TokenKind) (n m : ℕ) (bs rest : List ℕ) (o : Outcome) → l.Token kind m ≡ lexeme s rest → rest ≡ drop n bs → 0 < m → n < length bs → is_big kind (take m rest) ≡ false → s' ≡ state_after kind (take m rest) n s → us ≡ ts ++ token_at kind n m ∷ [] → put ts (read v s n 0 (drop n bs)) ≡ o → put us (read v s' (n + m) 0 (drop (n + m) bs)) ≡ o
+pub along_token : (v : Bool) (s s' : State) (ts us : List Token) (kind : TokenKind) (n m : ℕ) (bs rest : List ℕ)
+    (o : Outcome) → l.Token kind m ≡ lexeme s rest → rest ≡ drop n bs → 0 < m → n < length bs →
+    is_big kind (take m rest) ≡ false → s' ≡ state_after kind (take m rest) n s → us ≡ ts ++ token_at kind n m ∷ [] →
+    put ts (read v s n 0 (drop n bs)) ≡ o → put us (read v s' (n + m) 0 (drop (n + m) bs)) ≡ o
 along_token v s s' ts us kind n m bs rest o e r p q i es eu h =
     let d : drop m (drop n bs) ≡ drop (n + m) bs = grind (arith, common_steps) in
     let q' : 0 < length (drop n bs) = rw length-drop (omega arith) in
@@ -84,29 +97,37 @@ along_token v s s' ts us kind n m bs rest o e r p q i es eu h =
     ap (λ x. put us (read v s' (n + m) 0 x)) (sym d)
     ∙ ap (λ x. put us (read v x (n + m) 0 (drop m (drop n bs)))) es'
     ∙ ap (λ x. put x (read v (state_after kind (take m (drop n bs)) n s) (n + m) 0 (drop m (drop n bs)))) eu
-    ∙ sym (put_put ts (token_at kind n m ∷ []) (read v (state_after kind (take m (drop n bs)) n s) (n + m) 0 (drop m (drop n bs))))
+    ∙ sym (put_put ts (token_at kind n m ∷ [])
+    (read v (state_after kind (take m (drop n bs)) n s) (n + m) 0 (drop m (drop n bs))))
     ∙ ap (put ts) (sym (read_token v s n m kind (drop n bs) e' p q' i')) ∙ h
 
-pub along_big : (v : Bool) (s : State) (ts : List Token) (kind : TokenKind) (n m : ℕ) (bs rest : List ℕ) (o : Outcome) → l.Token kind m ≡ lexeme s rest → rest ≡ drop n bs → n < length bs → is_big kind (take m rest) ≡ true → put ts (read v s n 0 (drop n bs)) ≡ o → fault ts f.BigNumber n ≡ o
+pub along_big : (v : Bool) (s : State) (ts : List Token) (kind : TokenKind) (n m : ℕ) (bs rest : List ℕ)
+    (o : Outcome) → l.Token kind m ≡ lexeme s rest → rest ≡ drop n bs → n < length bs →
+    is_big kind (take m rest) ≡ true → put ts (read v s n 0 (drop n bs)) ≡ o → fault ts f.BigNumber n ≡ o
 along_big v s ts kind n m bs rest o e r q i h =
     let q' : 0 < length (drop n bs) = rw length-drop (omega arith) in
     let e' : lexeme s (drop n bs) ≡ l.Token kind m = sym (rw r at e) in
     let i' : is_big kind (take m (drop n bs)) ≡ true = rw r at i in
-    let z : put ts (read v s n 0 (drop n bs)) ≡ put ts (fault [] f.BigNumber n) = ap (put ts) (read_big v s n m kind (drop n bs) e' q' i') in
+    let z : put ts (read v s n 0 (drop n bs)) ≡ put ts (fault [] f.BigNumber n) =
+    ap (put ts) (read_big v s n m kind (drop n bs) e' q' i') in
     ap (λ x. fault x f.BigNumber n) (sym (append-nil ts)) ∙ sym z ∙ h
 
-pub along_stuck : (v : Bool) (s : State) (ts : List Token) (n : ℕ) (bs rest : List ℕ) (x : Option LexFault) (o : Outcome) → l.Nothing ≡ lexeme s rest → rest ≡ drop n bs → n < length bs → with_fault [] x ≡ stuck_at v s n rest → put ts (read v s n 0 (drop n bs)) ≡ o → with_fault ts x ≡ o
+pub along_stuck : (v : Bool) (s : State) (ts : List Token) (n : ℕ) (bs rest : List ℕ) (x : Option LexFault)
+    (o : Outcome) → l.Nothing ≡ lexeme s rest → rest ≡ drop n bs → n < length bs →
+    with_fault [] x ≡ stuck_at v s n rest → put ts (read v s n 0 (drop n bs)) ≡ o → with_fault ts x ≡ o
 along_stuck v s ts n bs rest x o e r q g h =
     let q' : 0 < length (drop n bs) = rw length-drop (omega arith) in
     let e' : lexeme s (drop n bs) ≡ l.Nothing = sym (rw r at e) in
     let g' : with_fault [] x ≡ stuck_at v s n (drop n bs) = rw r at g in
-    let z : put ts (read v s n 0 (drop n bs)) ≡ put ts (with_fault [] x) = ap (put ts) (read_nothing v s n (drop n bs) e' q' ∙ sym g') in
+    let z : put ts (read v s n 0 (drop n bs)) ≡ put ts (with_fault [] x) =
+    ap (put ts) (read_nothing v s n (drop n bs) e' q' ∙ sym g') in
     sym (put_fault ts x) ∙ sym z ∙ h
 
 no_more : (n : ℕ) (bs : List ℕ) → length bs ≤ n → drop n bs ≡ []
 no_more n bs h = grind (arith, common_steps)
 
-pub along_end : (v : Bool) (s : State) (ts : List Token) (n : ℕ) (bs : List ℕ) (x : Option LexFault) (o : Outcome) → length bs ≤ n → with_fault [] x ≡ at_end v s n → put ts (read v s n 0 (drop n bs)) ≡ o → with_fault ts x ≡ o
+pub along_end : (v : Bool) (s : State) (ts : List Token) (n : ℕ) (bs : List ℕ) (x : Option LexFault) (o : Outcome) →
+    length bs ≤ n → with_fault [] x ≡ at_end v s n → put ts (read v s n 0 (drop n bs)) ≡ o → with_fault ts x ≡ o
 along_end v s ts n bs x o q g h =
     let d : drop n bs ≡ [] = no_more n bs q in
     let z : read v s n 0 (drop n bs) ≡ at_end v s (n + 0) = ap (read v s n 0) d in

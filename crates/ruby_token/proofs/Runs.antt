@@ -1,5 +1,6 @@
 -- Runs of line ends: how far the scan goes is how far a run may go.
-use Rattle.std.proofs.Common.{◌≡◌, ℕ, zero, suc, ◌+◌, ◌<◌, ◌≤◌, List, [], ◌∷◌, ◌++◌, length, refl, ap, sym, ◌∙◌, arith, true, false, Bool, subst, append_assoc, inl, inr, ◌⊎◌, ◌==◌, length-append}
+use Rattle.std.proofs.Common.{◌≡◌, ℕ, zero, suc, ◌+◌, ◌<◌, ◌≤◌, List, [], ◌∷◌, ◌++◌, length, refl, ap, sym, ◌∙◌, arith}
+use Rattle.std.proofs.Common.{true, false, Bool, subst, append_assoc, inl, inr, ◌⊎◌, ◌==◌, length-append}
 use Rattle.std.proofs.lemmas.Bool.{eqb-true}
 use Rattle.std.proofs.lemmas.Bool.Decides.{nat_tests}
 use Rattle.ruby_token.specs.Bytes.{Every, is_white, not_lf}
@@ -37,17 +38,23 @@ len_end : (v : Bool) (b : ℕ) (x : List ℕ) → ends_line v b ≡ true → lin
 len_end true b x h = rw (ends_bracket b h) refl
 len_end false b x h = elim (ends_plain b h) [ inl e ↦ rw e refl | inr e ↦ rw e refl ]
 
-len_white : (v : Bool) (b : ℕ) (x : List ℕ) → is_white b ≡ true → lines_len v false (b ∷ x) ≡ one_more (lines_len v false x)
-len_white v b x h = elim (white_is b h) [ inl e ↦ elim e [ inl e' ↦ rw e' refl | inr e' ↦ rw e' refl ] | inr e' ↦ rw e' refl ]
+len_white : (v : Bool) (b : ℕ) (x : List ℕ) → is_white b ≡ true →
+    lines_len v false (b ∷ x) ≡ one_more (lines_len v false x)
+len_white v b x h = elim (white_is b h) [
+  | inl e ↦ elim e [ inl e' ↦ rw e' refl | inr e' ↦ rw e' refl ]
+  | inr e' ↦ rw e' refl
+]
 
-len_between : (v : Bool) (b : ℕ) (x : List ℕ) → is_between v b ≡ true → lines_len v false (b ∷ x) ≡ one_more (lines_len v false x)
+len_between : (v : Bool) (b : ℕ) (x : List ℕ) → is_between v b ≡ true →
+    lines_len v false (b ∷ x) ≡ one_more (lines_len v false x)
 len_between true b x h = elim (between_bracket b h) [ inl e ↦ len_white true b x e | inr e ↦ rw e refl ]
 len_between false b x h = len_white false b x (between_plain b h)
 
 len_hash : (v : Bool) (x : List ℕ) → lines_len v false (35 ∷ x) ≡ one_more (lines_len v true x)
 len_hash v x = refl
 
-len_inside : (v : Bool) (b : ℕ) (x : List ℕ) → not_lf b ≡ true → lines_len v true (b ∷ x) ≡ one_more (lines_len v true x)
+len_inside : (v : Bool) (b : ℕ) (x : List ℕ) → not_lf b ≡ true →
+    lines_len v true (b ∷ x) ≡ one_more (lines_len v true x)
 len_inside v b x h = rw h refl
 
 len_lf : (v : Bool) (x : List ℕ) → lines_len v true (10 ∷ x) ≡ lines_len v false (10 ∷ x)
@@ -65,7 +72,8 @@ more_than : (k n : ℕ) → 0 < n → n ≤ k → suc n ≤ one_more k
 more_than zero n h g = absurd (omega arith)
 more_than (suc k) n h g = omega arith
 
-comment_len : (v : Bool) (c x : List ℕ) (n : ℕ) → Every not_lf c → 0 < n → n ≤ lines_len v false (10 ∷ x) → length c + n ≤ lines_len v true (c ++ 10 ∷ x)
+comment_len : (v : Bool) (c x : List ℕ) (n : ℕ) → Every not_lf c → 0 < n → n ≤ lines_len v false (10 ∷ x) →
+    length c + n ≤ lines_len v true (c ++ 10 ∷ x)
 comment_len v [] x n h p g = rw (len_lf v x) (omega arith)
 comment_len v (b ∷ c) x n h p g =
     let i : length c + n ≤ lines_len v true (c ++ 10 ∷ x) = comment_len v c x n h.1 p g in
@@ -83,7 +91,8 @@ run_len v t r (white_before {b = b} {t = u} h e) =
 run_len v t r (comment_before {t = u} c h e) =
     let i : suc (length u) ≤ lines_len v false (10 ∷ (u ++ r)) = run_len v (10 ∷ u) r e in
     let a : (c ++ 10 ∷ u) ++ r ≡ c ++ 10 ∷ (u ++ r) = append_assoc c (10 ∷ u) r in
-    let j : length c + suc (length u) ≤ lines_len v true (c ++ 10 ∷ (u ++ r)) = comment_len v c (u ++ r) (suc (length u)) h (omega arith) i in
+    let j : length c + suc (length u) ≤ lines_len v true (c ++ 10 ∷ (u ++ r)) =
+    comment_len v c (u ++ r) (suc (length u)) h (omega arith) i in
     let l : length (c ++ 10 ∷ u) ≡ length c + suc (length u) = length-append c (10 ∷ u) in
     rw (a, len_hash v (c ++ 10 ∷ (u ++ r)), l) (more_than _ _ (omega arith) j)
 
@@ -116,11 +125,21 @@ no_run : (v c : Bool) (bs : List ℕ) → lines_len v c bs ≡ 0 → RunIn v c b
 no_run v c bs e = record { text = []; rest = bs; whole = refl; size = e; tail = tt }
 
 -- a byte that counts where a line end follows
-grown : (v c c' : Bool) (b : ℕ) (bs t r : List ℕ) → lines_len v c (b ∷ bs) ≡ one_more (lines_len v c' bs) → bs ≡ t ++ r → lines_len v c' bs ≡ length t → Tail v c' t → ((u : List ℕ) → 0 < length u → Tail v c' u → Tail v c (b ∷ u)) → RunIn v c (b ∷ bs)
+grown : (v c c' : Bool) (b : ℕ) (bs t r : List ℕ) → lines_len v c (b ∷ bs) ≡ one_more (lines_len v c' bs) →
+    bs ≡ t ++ r → lines_len v c' bs ≡ length t → Tail v c' t →
+    ((u : List ℕ) → 0 < length u → Tail v c' u → Tail v c (b ∷ u)) → RunIn v c (b ∷ bs)
 grown v c c' b bs [] r e w z h f = no_run v c (b ∷ bs) (e ∙ ap one_more z)
-grown v c c' b bs (d ∷ t) r e w z h f = record { text = b ∷ d ∷ t; rest = r; whole = ap (λ x. b ∷ x) w; size = e ∙ ap one_more z; tail = f (d ∷ t) (omega arith) h }
+grown v c c' b bs (d ∷ t) r e w z h f = record {
+  text = b ∷ d ∷ t;
+  rest = r;
+  whole = ap (λ x. b ∷ x) w;
+  size = e
+      ∙ ap one_more z;
+  tail = f (d ∷ t) (omega arith) h;
+}
 
-white_on : (v : Bool) (b : ℕ) → is_between v b ≡ true → (u : List ℕ) → 0 < length u → Tail v false u → Tail v false (b ∷ u)
+white_on : (v : Bool) (b : ℕ) → is_between v b ≡ true → (u : List ℕ) → 0 < length u → Tail v false u →
+    Tail v false (b ∷ u)
 white_on v b h [] p e = absurd (omega arith)
 white_on v b h (d ∷ u) p e = white_before h e
 
@@ -130,23 +149,39 @@ comment_on v (d ∷ u) p e = subst (λ x. Ends v (35 ∷ x)) (sym e.joined) (com
 
 inside_on : (v : Bool) (b : ℕ) → not_lf b ≡ true → (u : List ℕ) → 0 < length u → Tail v true u → Tail v true (b ∷ u)
 inside_on v b h [] p e = absurd (omega arith)
-inside_on v b h (d ∷ u) p e = record { comment = b ∷ e.comment; back = e.back; joined = ap (λ x. b ∷ x) e.joined; every = (h, e.every); ends = e.ends }
+inside_on v b h (d ∷ u) p e = record {
+  comment = b ∷ e.comment;
+  back = e.back;
+  joined = ap (λ x. b ∷ x) e.joined;
+  every = (h, e.every);
+  ends = e.ends;
+}
 
 end_tail : (v : Bool) (b : ℕ) (t : List ℕ) → ends_line v b ≡ true → Tail v false t → Tail v false (b ∷ t)
 end_tail v b [] h e = last_end h
 end_tail v b (d ∷ t) h e = more_ends h e
 
-none_on : (v : Bool) (b : ℕ) (bs : List ℕ) → ends_line v b ≡ false → is_between v b ≡ false → (b == 35) ≡ false → lines_len v false (b ∷ bs) ≡ 0
+none_on : (v : Bool) (b : ℕ) (bs : List ℕ) → ends_line v b ≡ false → is_between v b ≡ false → (b == 35) ≡ false →
+    lines_len v false (b ∷ bs) ≡ 0
 none_on v b bs h g i = rw (h, g, i) refl
 
 run_outside : (v : Bool) (b : ℕ) (bs : List ℕ) → RunIn v false bs → RunIn v true bs → RunIn v false (b ∷ bs)
 run_outside v b bs f g =
     cases (ends_line v b)
-    (λ h. record { text = b ∷ f.text; rest = f.rest; whole = ap (λ x. b ∷ x) f.whole; size = len_end v b bs h ∙ ap suc f.size; tail = end_tail v b f.text h f.tail })
+    (λ h. record {
+      text = b ∷ f.text;
+      rest = f.rest;
+      whole = ap (λ x. b ∷ x) f.whole;
+      size = len_end v b bs h
+          ∙ ap suc f.size;
+      tail = end_tail v b f.text h f.tail;
+    })
     (λ h1. cases (is_between v b)
     (λ h. grown v false false b bs f.text f.rest (len_between v b bs h) f.whole f.size f.tail (white_on v b h))
     (λ h2. cases (b == 35)
-    (λ h. let e : b ≡ 35 = eqb-true b 35 h in subst (λ x. RunIn v false (x ∷ bs)) (sym e) (grown v false true 35 bs g.text g.rest (len_hash v bs) g.whole g.size g.tail (comment_on v)))
+    (λ h. let e : b ≡ 35 = eqb-true b 35 h in
+    subst (λ x. RunIn v false (x ∷ bs)) (sym e)
+    (grown v false true 35 bs g.text g.rest (len_hash v bs) g.whole g.size g.tail (comment_on v)))
     (λ h3. no_run v false (b ∷ bs) (none_on v b bs h1 h2 h3))))
 
 lf_tail : (v : Bool) (bs t r : List ℕ) → 10 ∷ bs ≡ t ++ r → Tail v false t → Tail v true t
@@ -160,8 +195,17 @@ run_comment v b bs f g =
     cases (b == 10)
     (λ h. let e : b ≡ 10 = eqb-true b 10 h in
     let k = run_outside v 10 bs f g in
-    subst (λ x. RunIn v true (x ∷ bs)) (sym e) (record { text = k.text; rest = k.rest; whole = k.whole; size = len_lf v bs ∙ k.size; tail = lf_tail v bs k.text k.rest k.whole k.tail }))
-    (λ h. let n : not_lf b ≡ true = rw h refl in grown v true true b bs g.text g.rest (len_inside v b bs n) g.whole g.size g.tail (inside_on v b n))
+    subst (λ x. RunIn v true (x ∷ bs)) (sym e)
+    (record {
+      text = k.text;
+      rest = k.rest;
+      whole = k.whole;
+      size = len_lf v bs
+          ∙ k.size;
+      tail = lf_tail v bs k.text k.rest k.whole k.tail;
+    }))
+    (λ h. let n : not_lf b ≡ true = rw h refl in
+    grown v true true b bs g.text g.rest (len_inside v b bs n) g.whole g.size g.tail (inside_on v b n))
 
 run_in : (v c : Bool) (bs : List ℕ) → RunIn v c bs
 run_in v true [] = no_run v true [] refl
@@ -182,4 +226,5 @@ run_of v [] e = inl refl
 run_of v (b ∷ t) e = inr e
 
 pub run_at : (v : Bool) (bs : List ℕ) → RunAt v bs
-run_at v bs = let f = run_in v false bs in record { text = f.text; rest = f.rest; whole = f.whole; size = f.size; run = run_of v f.text f.tail }
+run_at v bs = let f = run_in v false bs in
+    record { text = f.text; rest = f.rest; whole = f.whole; size = f.size; run = run_of v f.text f.tail }

@@ -1,12 +1,14 @@
 -- Spans rise, and each token's slice is a text of its kind.
-use Rattle.std.proofs.Common.{◌≡◌, ℕ, ◌+◌, ◌-◌, ◌<◌, ◌≤◌, Bool, true, false, List, [], ◌∷◌, ◌++◌, length, refl, ap, sym, ◌∙◌, take, drop, arith, subst, length-append, append_assoc, Option, Some, None, ◌&&◌}
+use Rattle.std.proofs.Common.{◌≡◌, ℕ, ◌+◌, ◌-◌, ◌<◌, ◌≤◌, Bool, true, false, List, [], ◌∷◌, ◌++◌, length, refl, ap, sym}
+use Rattle.std.proofs.Common.{◌∙◌, take, drop, arith, subst, length-append, append_assoc, Option, Some, None, ◌&&◌}
 use Rattle.ruby_token.specs.declared.token.Token.{Token}
 use Rattle.ruby_token.specs.declared.opens.Quote.{Quote}
 use Rattle.ruby_token.specs.declared.fault.LexFault.{LexFault}
 use Rattle.ruby_token.specs.declared.state.State.{State}
 use Rattle.ruby_token.specs.Opens.{text_at, outermost}
 use Rattle.ruby_token.specs.Lexemes.{token}
-use Rattle.ruby_token.specs.Cut.{Outcome, done, fault, put, open_text, at_end, is_last, stuck_in, Cut, ends, passes, gives, big, stuck, with_fault}
+use Rattle.ruby_token.specs.Cut.{Outcome, done, fault, put, open_text, at_end, is_last, stuck_in, Cut, ends, passes}
+use Rattle.ruby_token.specs.Cut.{gives, big, stuck, with_fault}
 use Rattle.ruby_token.specs.Spans.{Spans}
 use Rattle.ruby_token.proofs.Words.{split_if, drop_front}
 use Rattle.ruby_token.proofs.Cuts.{take_front, some_text}
@@ -33,7 +35,8 @@ none_at_end false s n = refl
 
 none_stuck_in : (m : Option Quote) (v : Bool) (s : State) (n : ℕ) (bs : List ℕ) → tokens_in (stuck_in m v s n bs) ≡ []
 none_stuck_in None v s n bs = refl
-none_stuck_in (Some q) v s n bs = split_if (λ x. tokens_in x ≡ []) (v && is_last bs) _ _ (λ h. none_at_end v s n) (λ h. refl)
+none_stuck_in (Some q) v s n bs = split_if (λ x. tokens_in x ≡ []) (v && is_last bs) _ _ (λ h. none_at_end v s n)
+    (λ h. refl)
 
 put_in : (t : Token) (o : Outcome) → tokens_in (put (t ∷ []) o) ≡ t ∷ tokens_in o
 put_in t (done ts) = refl
@@ -52,20 +55,27 @@ slice p t r n e = rw (drop_front p (t ++ r), e) (take_front t r)
 no_tokens : (p bs : List ℕ) (n : ℕ) (ts : List Token) → ts ≡ [] → n ≡ length p → Spans (p ++ bs) n ts
 no_tokens p bs n ts z e = rw (z, e, length-append) (omega arith)
 
-pub spans_of : {v : Bool} {s : State} {n : ℕ} {bs : List ℕ} {o : Outcome} → Cut v s n bs o → (p : List ℕ) → n ≡ length p → Spans (p ++ bs) n (tokens_in o)
+pub spans_of : {v : Bool} {s : State} {n : ℕ} {bs : List ℕ} {o : Outcome} → Cut v s n bs o → (p : List ℕ) →
+    n ≡ length p → Spans (p ++ bs) n (tokens_in o)
 spans_of {v = v} (ends {s = s} {n = n}) p e = no_tokens p [] n _ (none_at_end v s n) e
 spans_of (passes {s = s} {n = n} {t = t} {r = r} {bs = bs} {o = o} h w c) p e =
-    let i : Spans ((p ++ t) ++ r) (n + length t) (tokens_in o) = spans_of c (p ++ t) (ap (λ x. x + length t) e ∙ sym (length-append p t)) in
+    let i : Spans ((p ++ t) ++ r) (n + length t) (tokens_in o) =
+    spans_of c (p ++ t) (ap (λ x. x + length t) e ∙ sym (length-append p t)) in
     let a : (p ++ t) ++ r ≡ p ++ bs = append_assoc p t r ∙ ap (λ x. p ++ x) (sym w) in
-    spans_later (p ++ bs) n (n + length t) (tokens_in o) (omega arith) (subst (λ x. Spans x (n + length t) (tokens_in o)) a i)
+    spans_later (p ++ bs) n (n + length t) (tokens_in o) (omega arith)
+    (subst (λ x. Spans x (n + length t) (tokens_in o)) a i)
 spans_of (gives {s = s} {n = n} {kind = kind} {t = t} {r = r} {bs = bs} {o = o} h w b c) p e =
-    let i : Spans ((p ++ t) ++ r) (n + length t) (tokens_in o) = spans_of c (p ++ t) (ap (λ x. x + length t) e ∙ sym (length-append p t)) in
+    let i : Spans ((p ++ t) ++ r) (n + length t) (tokens_in o) =
+    spans_of c (p ++ t) (ap (λ x. x + length t) e ∙ sym (length-append p t)) in
     let a : (p ++ t) ++ r ≡ p ++ bs = append_assoc p t r ∙ ap (λ x. p ++ x) (sym w) in
     let i' : Spans (p ++ bs) (n + length t) (tokens_in o) = subst (λ x. Spans x (n + length t) (tokens_in o)) a i in
     let z : 0 < length t = some_text s (token kind) t r h.is in
     let m : n + length t - n ≡ length t = omega arith in
-    let x : take (n + length t - n) (drop n (p ++ bs)) ≡ t = rw (e, w) (slice p t r (length p + length t - length p) (omega arith)) in
+    let x : take (n + length t - n) (drop n (p ++ bs)) ≡ t =
+    rw (e, w) (slice p t r (length p + length t - length p) (omega arith)) in
     let y : drop (n + length t) (p ++ bs) ≡ r = rw (e, w) (drop_twice p t r) in
-    rw (put_in (record { kind = kind; from = n; to = n + length t }) o) (omega arith, omega arith, (s, rw (x, y) h.is), i')
+    rw (put_in (record { kind = kind; from = n; to = n + length t }) o)
+    (omega arith, omega arith, (s, rw (x, y) h.is), i')
 spans_of (big {n = n} {bs = bs} h w b) p e = no_tokens p bs n [] refl e
-spans_of {v = v} (stuck {s = s} {n = n} {b = b} {bs = bs} h) p e = no_tokens p (b ∷ bs) n _ (none_stuck_in (text_at s.opens) v s n (b ∷ bs)) e
+spans_of {v = v} (stuck {s = s} {n = n} {b = b} {bs = bs} h) p e =
+    no_tokens p (b ∷ bs) n _ (none_stuck_in (text_at s.opens) v s n (b ∷ bs)) e

@@ -1,9 +1,11 @@
 -- Fronts of lists.
-use Rattle.std.proofs.Common.{◌≡◌, ℕ, ◌≤◌, List, [], ◌∷◌, ◌++◌, length, refl, ap, sym, drop, arith, true, false, Bool, if◌then◌else◌}
+use Rattle.std.proofs.Common.{◌≡◌, ℕ, ◌≤◌, List, [], ◌∷◌, ◌++◌, length, refl, ap, sym, drop, arith, true, false, Bool}
+use Rattle.std.proofs.Common.{if◌then◌else◌}
 use Rattle.std.specs.List.{prefix_len}
 use Rattle.ruby_token.specs.Bytes.{Every}
 
-pub split_if : {A : Type 0} (P : A → Type 0) (b : Bool) (x y : A) → (b ≡ true → P x) → (b ≡ false → P y) → P (if b then x else y)
+pub split_if : {A : Type 0} (P : A → Type 0) (b : Bool) (x y : A) → (b ≡ true → P x) → (b ≡ false → P y) →
+    P (if b then x else y)
 split_if P true x y h g = h refl
 split_if P false x y h g = g refl
 
@@ -44,7 +46,8 @@ at_most p (b ∷ t) r h =
     rw g (omega arith)
 
 -- where what follows doesn't pass, it's the longest
-pub exactly : (p : ℕ → Bool) (t : List ℕ) (q : ℕ) (r : List ℕ) → Every p t → p q ≡ false → prefix_len p (t ++ q ∷ r) ≡ length t
+pub exactly : (p : ℕ → Bool) (t : List ℕ) (q : ℕ) (r : List ℕ) → Every p t → p q ≡ false →
+    prefix_len p (t ++ q ∷ r) ≡ length t
 exactly p [] q r h n = rw n refl
 exactly p (b ∷ t) q r h n =
     let g : p b ≡ true = h.0 in

@@ -1,5 +1,6 @@
 -- How a file is cut into tokens: at each place the longest lexeme is taken, up to the first fault.
-use Rattle.std.specs.Prelude.{◌≡◌, ℕ, ◌+◌, ◌≤◌, Bool, true, false, List, [], ◌∷◌, ◌++◌, Option, Some, None, length, take, ◌==◌, ◌&&◌, not, if◌then◌else◌}
+use Rattle.std.specs.Prelude.{◌≡◌, ℕ, ◌+◌, ◌≤◌, Bool, true, false, List, [], ◌∷◌, ◌++◌, Option, Some, None, length}
+use Rattle.std.specs.Prelude.{take, ◌==◌, ◌&&◌, not, if◌then◌else◌}
 use Rattle.std.specs.Str.Lossy.{utf8_valid_len}
 use Rattle.ruby_token.specs.declared.token.TokenKind.{TokenKind}
 use Rattle.ruby_token.specs.declared.token.TokenKind.TheVariants as k
@@ -37,7 +38,8 @@ abbrev pub open_text : Option ℕ → Outcome
 open_text None = done []
 open_text (Some quote) = fault [] f.OpenText quote
 
--- At the end of the bytes that are UTF-8: the flag says that the file ends there. An open text is at fault, the outermost
+-- At the end of the bytes that are UTF-8: the flag says that the file ends there. An open text is at fault, the
+-- outermost
 -- of several; where the file goes on, its next byte is.
 abbrev pub at_end : Bool → State → ℕ → Outcome
 at_end whole s n = if whole then open_text (outermost s.opens) else fault [] f.BadByte n
@@ -45,7 +47,8 @@ at_end whole s n = if whole then open_text (outermost s.opens) else fault [] f.B
 abbrev pub is_last : List ℕ → Bool
 is_last bs = length bs == 1
 
--- Where no lexeme begins: in code a byte that begins no token; in a text a backslash before a byte that it doesn't escape,
+-- Where no lexeme begins: in code a byte that begins no token; in a text a backslash before a byte that it doesn't
+-- escape,
 -- but the file's last byte leaves its text open.
 abbrev pub stuck_in : Option Quote → Bool → State → ℕ → List ℕ → Outcome
 stuck_in None whole s n bs = fault [] f.BadByte n
@@ -62,10 +65,15 @@ is_big _ text = false
 -- From this state and this place on the bytes are cut so.
 pub data Cut (whole : Bool) : State → ℕ → List ℕ → Outcome → Type 0 where
   ends : {s : State} {n : ℕ} → Cut whole s n [] (at_end whole s n)
-  passes : {s : State} {n : ℕ} {t r bs : List ℕ} {o : Outcome} → Longest s gap t r → bs ≡ t ++ r → Cut whole (state_past t s) (n + length t) r o → Cut whole s n bs o
-  gives : {s : State} {n : ℕ} {kind : TokenKind} {t r bs : List ℕ} {o : Outcome} → Longest s (token kind) t r → bs ≡ t ++ r → is_big kind t ≡ false → Cut whole (state_after kind t n s) (n + length t) r o → Cut whole s n bs (put (record { kind = kind; from = n; to = n + length t } ∷ []) o)
-  big : {s : State} {n : ℕ} {kind : TokenKind} {t r bs : List ℕ} → Longest s (token kind) t r → bs ≡ t ++ r → is_big kind t ≡ true → Cut whole s n bs (fault [] f.BigNumber n)
-  stuck : {s : State} {n b : ℕ} {bs : List ℕ} → NoLexeme s (b ∷ bs) → Cut whole s n (b ∷ bs) (stuck_at whole s n (b ∷ bs))
+  passes : {s : State} {n : ℕ} {t r bs : List ℕ} {o : Outcome} → Longest s gap t r → bs ≡ t ++ r →
+      Cut whole (state_past t s) (n + length t) r o → Cut whole s n bs o
+  gives : {s : State} {n : ℕ} {kind : TokenKind} {t r bs : List ℕ} {o : Outcome} → Longest s (token kind) t r →
+      bs ≡ t ++ r → is_big kind t ≡ false → Cut whole (state_after kind t n s) (n + length t) r o →
+      Cut whole s n bs (put (record { kind = kind; from = n; to = n + length t } ∷ []) o)
+  big : {s : State} {n : ℕ} {kind : TokenKind} {t r bs : List ℕ} → Longest s (token kind) t r → bs ≡ t ++ r →
+      is_big kind t ≡ true → Cut whole s n bs (fault [] f.BigNumber n)
+  stuck : {s : State} {n b : ℕ} {bs : List ℕ} → NoLexeme s (b ∷ bs) →
+      Cut whole s n (b ∷ bs) (stuck_at whole s n (b ∷ bs))
 
 -- the longest front of these bytes that is UTF-8
 abbrev pub utf8_front : List ℕ → List ℕ

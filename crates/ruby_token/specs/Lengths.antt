@@ -18,7 +18,8 @@ abbrev pub digits_len : List ℕ → ℕ
 digits_len [] = 0
 digits_len (b ∷ bs) = if is_ascii_digit b || ((b == 95) && next_passes is_ascii_digit bs) then 1 + digits_len bs else 0
 
--- Line ends with white and comments between them, up to the last line end. The flags say that a bracket is open, and that
+-- Line ends with white and comments between them, up to the last line end. The flags say that a bracket is open, and
+-- that
 -- the place stands in a comment.
 abbrev pub in_comment : Bool → ℕ → Bool
 in_comment comment b = comment && not_lf b
@@ -41,7 +42,8 @@ abbrev pub lines_len : Bool → Bool → List ℕ → ℕ
 lines_len bracket comment [] = 0
 lines_len bracket comment (b ∷ bs) =
     if goes_on bracket comment b
-    then (if ends_here bracket comment b then suc (lines_len bracket (comments comment b) bs) else one_more (lines_len bracket (comments comment b) bs))
+    then (if ends_here bracket comment b then suc (lines_len bracket (comments comment b) bs) else one_more
+    (lines_len bracket (comments comment b) bs))
     else 0
 
 -- the length of a run whose last line end is at `last`, where `more` bytes of it come from n on
@@ -56,7 +58,8 @@ piece_ends b bs = (b == 34) || (((b == 35) && next_is 123 bs) || ((b == 92) && n
 -- plain bytes and escapes; the flag says that a backslash stands before
 abbrev pub piece_from : Bool → List ℕ → ℕ
 piece_from escaped [] = 0
-piece_from escaped (b ∷ bs) = if not escaped && piece_ends b bs then 0 else suc (piece_from (not escaped && (b == 92)) bs)
+piece_from escaped (b ∷ bs) = if not escaped && piece_ends b bs then 0 else suc
+    (piece_from (not escaped && (b == 92)) bs)
 
 abbrev pub piece_len : List ℕ → ℕ
 piece_len bs = piece_from false bs

@@ -15,7 +15,8 @@ read whole s n zero (b ∷ bs) = elim (lexeme s (b ∷ bs)) [
   | l.Gap m ↦ read whole (state_past (take m (b ∷ bs)) s) (n + 1) (pred m) bs
   | l.Token kind m ↦
       if is_big kind (take m (b ∷ bs)) then fault [] f.BigNumber n
-      else put (record { kind = kind; from = n; to = n + m } ∷ []) (read whole (state_after kind (take m (b ∷ bs)) n s) (n + 1) (pred m) bs)
+      else put (record { kind = kind; from = n; to = n + m } ∷ [])
+      (read whole (state_after kind (take m (b ∷ bs)) n s) (n + 1) (pred m) bs)
   | l.Nothing ↦ stuck_at whole s n (b ∷ bs)
 ]
 

@@ -1,5 +1,6 @@
 -- What the bytes before a place mean for what stands there.
-use Rattle.std.specs.Prelude.{ℕ, ◌+◌, ◌-◌, Bool, true, false, List, [], ◌∷◌, if◌then◌else◌, ◌==◌, ◌&&◌, ◌||◌, drop, length, codes, nat_eq, nat_lt, slice_index}
+use Rattle.std.specs.Prelude.{ℕ, ◌+◌, ◌-◌, Bool, true, false, List, [], ◌∷◌, if◌then◌else◌, ◌==◌, ◌&&◌, ◌||◌, drop}
+use Rattle.std.specs.Prelude.{length, codes, nat_eq, nat_lt, slice_index}
 use Rattle.std.specs.List.{starts_with}
 use Rattle.ruby_token.specs.declared.token.Op.{Op}
 use Rattle.ruby_token.specs.declared.token.Op.TheVariants as op
@@ -23,7 +24,8 @@ start = record { opens = []; brackets = 0; after = a.Other; before = 0 }
 -- the reserved words that stand for no value: all but `self`, `nil`, `true` and `false`
 abbrev pub valueless_words : List (List ℕ)
 valueless_words =
-    codes "end" ∷ codes "if" ∷ codes "def" ∷ codes "return" ∷ codes "else" ∷ codes "class" ∷ codes "module" ∷ codes "unless"
+    codes "end" ∷ codes "if" ∷ codes "def" ∷ codes "return" ∷ codes "else" ∷ codes "class" ∷ codes "module" ∷ codes
+    "unless"
     ∷ codes "elsif" ∷ codes "then" ∷ codes "raise" ∷ codes "include" ∷ codes "attr_reader" ∷ []
 
 abbrev pub is_one_of : List (List ℕ) → List ℕ → Bool

@@ -1,5 +1,6 @@
 -- What the lexer finds at the front of the bytes.
-use Rattle.std.specs.Prelude.{ℕ, ◌+◌, Bool, false, List, [], ◌∷◌, Option, Some, None, if◌then◌else◌, ◌==◌, not, ◌&&◌, drop, nat_lt, nat_eq, length, ◌<◌, ◌≤◌}
+use Rattle.std.specs.Prelude.{ℕ, ◌+◌, Bool, false, List, [], ◌∷◌, Option, Some, None, if◌then◌else◌, ◌==◌, not, ◌&&◌}
+use Rattle.std.specs.Prelude.{drop, nat_lt, nat_eq, length, ◌<◌, ◌≤◌}
 use Rattle.std.specs.List.{prefix_len, starts_with}
 use Rattle.std.specs.Char.{is_ascii_digit, is_ascii_uppercase}
 use Rattle.ruby_token.specs.declared.token.Op.{Op}
@@ -30,7 +31,8 @@ operator_at bs = first_in operators bs
 -- where no piece begins
 abbrev pub double_mark : List ℕ → Lexeme
 double_mark [] = l.Nothing
-double_mark (b ∷ bs) = if b == 34 then l.Token k.TextClose 1 else (if (b == 35) && next_is 123 bs then l.Token k.InsideOpen 2 else l.Nothing)
+double_mark (b ∷ bs) = if b == 34 then l.Token k.TextClose 1 else
+    (if (b == 35) && next_is 123 bs then l.Token k.InsideOpen 2 else l.Nothing)
 
 abbrev pub single_mark : List ℕ → Lexeme
 single_mark bs = if next_is 39 bs then l.Token k.TextClose 1 else l.Nothing
@@ -49,7 +51,8 @@ colon_at bs = next_is 58 bs && not (next_is 58 (drop 1 bs))
 
 -- a small letter, and these bytes after it
 abbrev pub word_lexeme : List ℕ → Lexeme
-word_lexeme bs = if colon_at (drop (name_len bs) bs) then l.Token k.Label (1 + name_len bs + 1) else l.Token k.Name (1 + name_len bs)
+word_lexeme bs = if colon_at (drop (name_len bs) bs) then l.Token k.Label (1 + name_len bs + 1) else l.Token k.Name
+    (1 + name_len bs)
 
 -- a sign's length, a digit, and these bytes after it
 abbrev pub int_lexeme : ℕ → ℕ → List ℕ → Lexeme
@@ -57,7 +60,8 @@ int_lexeme sign b bs = if b == 48 then l.Token k.Int (sign + 1) else l.Token k.I
 
 abbrev pub operator_by : List Open → Option (Op × ℕ) → Lexeme
 operator_by opens None = l.Nothing
-operator_by opens (Some x) = if is_close_brace x.0 && in_inside opens then l.Token k.InsideClose x.1 else l.Token (k.Op x.0) x.1
+operator_by opens (Some x) = if is_close_brace x.0 && in_inside opens then l.Token k.InsideClose x.1 else l.Token
+    (k.Op x.0) x.1
 
 abbrev pub operator_lexeme : List Open → List ℕ → Lexeme
 operator_lexeme opens bs = operator_by opens (operator_at bs)
@@ -70,7 +74,8 @@ minus_lexeme opens (b ∷ bs) = if is_ascii_digit b then int_lexeme 1 b bs else 
 -- a `@`, and these bytes after it
 abbrev pub at_lexeme : List Open → List ℕ → Lexeme
 at_lexeme opens [] = operator_lexeme opens (64 ∷ [])
-at_lexeme opens (b ∷ bs) = if is_lower b then l.Token k.Ivar (2 + prefix_len is_word bs) else operator_lexeme opens (64 ∷ b ∷ bs)
+at_lexeme opens (b ∷ bs) = if is_lower b then l.Token k.Ivar (2 + prefix_len is_word bs) else operator_lexeme opens
+    (64 ∷ b ∷ bs)
 
 -- a `:` with no `:` before it, and these bytes after it
 abbrev pub colon_lexeme : List Open → List ℕ → Lexeme

@@ -1,7 +1,10 @@
 //! What stands at the front of the bytes.
 
 ghost use Rattle.std.specs.Prelude.{◌≡◌, ◌≤◌, ◌<◌, ◌+◌, ◌^◌, ◌∷◌, length, drop, slice_index};
-ghost use Rattle.ruby_token.specs.Steps.{double_mark, single_mark, double_lexeme, single_lexeme, word_lexeme, int_lexeme, operator_lexeme, minus_lexeme, at_lexeme, colon_lexeme, line_lexeme, mark_lexeme, space_lexeme, code_lexeme, lexeme, Within, WithinMore, IsToken};
+ghost use Rattle.ruby_token.specs.Steps.{double_mark, single_mark, double_lexeme, single_lexeme, word_lexeme};
+ghost use Rattle.ruby_token.specs.Steps.{int_lexeme, operator_lexeme, minus_lexeme, at_lexeme, colon_lexeme};
+ghost use Rattle.ruby_token.specs.Steps.{line_lexeme, mark_lexeme, space_lexeme, code_lexeme, lexeme, Within};
+ghost use Rattle.ruby_token.specs.Steps.{WithinMore, IsToken};
 
 use crate::opens::{Opens, Quote};
 use crate::operators::operator_at;

@@ -2,7 +2,8 @@
 
 ghost use Rattle.std.specs.Prelude.{◌≡◌, ◌≤◌, ◌<◌, ◌^◌, [], length, IfOk, IfErr, MatchResult};
 ghost use Rattle.std.specs.Str.Lossy.{utf8_valid_len};
-ghost use Rattle.ruby_token.specs.Cut.{Outcome, done, fault, with_fault, is_big, stuck_at, at_end, utf8_front, Lexes, FaultGives};
+ghost use Rattle.ruby_token.specs.Cut.{Outcome, done, fault, with_fault, is_big, stuck_at, at_end, utf8_front, Lexes};
+ghost use Rattle.ruby_token.specs.Cut.{FaultGives};
 ghost use Rattle.ruby_token.specs.Spans.{Spans};
 ghost use Rattle.ruby_token.specs.Reading.{outcome_of};
 
@@ -154,7 +155,8 @@ pub fn tokens(alloc: Global, bytes: &[u8]) -> Result<Tokens, LexFault>
     // A fault is the one that the cut ends in.
     ensures fault { IfErr result (λ e. (o : Outcome) × Lexes bytes.now o × FaultGives e.kind e.at o) }
     // They are cut in no other way.
-    ensures only { (o : Outcome) → Lexes bytes.now o → MatchResult result (λ ts. o ≡ done ts) (λ e. FaultGives e.kind e.at o) }
+    ensures only { (o : Outcome) → Lexes bytes.now o →
+        MatchResult result (λ ts. o ≡ done ts) (λ e. FaultGives e.kind e.at o) }
 {
     match lex(alloc, bytes) {
         Err(_) => Err(MEMORY),

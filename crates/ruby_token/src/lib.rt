@@ -1,6 +1,7 @@
 //! The tokens of a Ruby file.
 //!
-//! [`tokens`] cuts a file's bytes into tokens, or tells its first fault; [`lex`] tells both the tokens before a fault and
+//! [`tokens`] cuts a file's bytes into tokens, or tells its first fault; [`lex`] tells both the tokens before a fault
+//! and
 //! the fault. A token is a kind and a place in the bytes: its text is the slice there.
 #![tactic(auto)]
 

@@ -3,9 +3,11 @@
 ghost use Rattle.std.specs.Prelude.{◌≡◌, ◌≤◌, ◌<◌, ◌==◌, false, not, ◌&&◌, length, drop};
 ghost use Rattle.std.specs.List.{prefix_len};
 ghost use Rattle.std.specs.Char.{is_ascii_digit, is_ascii_uppercase};
-ghost use Rattle.ruby_token.specs.Bytes.{is_word, is_lower, is_white, not_lf, is_line_end, is_quote, is_suffix, is_escape, next_is, next_passes};
+ghost use Rattle.ruby_token.specs.Bytes.{is_word, is_lower, is_white, not_lf, is_line_end, is_quote, is_suffix};
+ghost use Rattle.ruby_token.specs.Bytes.{is_escape, next_is, next_passes};
 ghost use Rattle.ruby_token.specs.Lexemes.{ends_line, is_between};
-ghost use Rattle.ruby_token.specs.Lengths.{suffix_len, name_len, digits_len, in_comment, goes_on, ends_here, comments, lines_len, piece_ends, piece_len, single_len};
+ghost use Rattle.ruby_token.specs.Lengths.{suffix_len, name_len, digits_len, in_comment, goes_on, ends_here, comments};
+ghost use Rattle.ruby_token.specs.Lengths.{lines_len, piece_ends, piece_len, single_len};
 
 pub fn is_lower(b: u8) -> bool
     ensures { result ≡ is_lower b }

@@ -2,7 +2,9 @@
 
 ghost use Rattle.std.specs.Prelude.{◌≡◌, ◌≤◌, ◌<◌, ◌+◌, ◌-◌, ◌^◌, length, map, OnOk};
 ghost use Rattle.ruby_token.specs.Opens.{text_at, in_inside};
-ghost use Rattle.ruby_token.specs.State.{start, is_one_of, is_valueless, after_op, after_token, ends_value, joins, quote_of, close_brace, opens_op, opens_after, brackets_op, brackets_after, in_brackets, last_of, state_past, state_after, drops};
+ghost use Rattle.ruby_token.specs.State.{start, is_one_of, is_valueless, after_op, after_token, ends_value, joins};
+ghost use Rattle.ruby_token.specs.State.{quote_of, close_brace, opens_op, opens_after, brackets_op, brackets_after};
+ghost use Rattle.ruby_token.specs.State.{in_brackets, last_of, state_past, state_after, drops};
 
 use crate::opens::{Open, Opens, Quote};
 use crate::scan::next_is;

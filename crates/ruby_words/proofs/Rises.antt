@@ -1,5 +1,6 @@
 -- The words rise, so they make a table.
-use Rattle.std.proofs.Common.{◌≡◌, ℕ, zero, suc, ◌+◌, Bool, true, false, ◌&&◌, List, [], ◌∷◌, Some, None, Option, slice_get, refl, subst, arith}
+use Rattle.std.proofs.Common.{◌≡◌, ℕ, zero, suc, ◌+◌, Bool, true, false, ◌&&◌, List, [], ◌∷◌, Some, None, Option}
+use Rattle.std.proofs.Common.{slice_get, refl, subst, arith}
 use Rattle.std.proofs.lemmas.Bool.{and_parts}
 use Rattle.std.specs.Ordering.{nat_cmp}
 use Rattle.std.specs.Cmp.Lexicographic.{slice_cmp}
@@ -35,7 +36,8 @@ one_row : (r s : Row) → ◌≡◌ {A = Option Row} (Some r) (Some s) → r ≡
 one_row r s e = cc
 
 -- of rows that rise each is less than the next
-next_rises : (rows : List Row) (i n : ℕ) (r s : Row) → n ≡ i + 1 → rises rows ≡ true → slice_get rows i ≡ Some r → slice_get rows n ≡ Some s → IsLess r.0 s.0
+next_rises : (rows : List Row) (i n : ℕ) (r s : Row) → n ≡ i + 1 → rises rows ≡ true → slice_get rows i ≡ Some r →
+    slice_get rows n ≡ Some s → IsLess r.0 s.0
 next_rises [] i n r s e h a b = no_row _ r a
 next_rises (x ∷ []) zero zero r s e h a b = absurd (omega arith)
 next_rises (x ∷ []) zero (suc n) r s e h a b = no_row _ s b
@@ -48,10 +50,12 @@ next_rises (x ∷ y ∷ rows) zero (suc zero) r s e h a b =
     subst (λ (p : Row). IsLess p.0 s.0) first (subst (λ (p : Row). IsLess x.0 p.0) second less)
 next_rises (x ∷ y ∷ rows) zero (suc (suc n)) r s e h a b = absurd (omega arith)
 next_rises (x ∷ y ∷ rows) (suc i) zero r s e h a b = absurd (omega arith)
-next_rises (x ∷ y ∷ rows) (suc i) (suc n) r s e h a b = next_rises (y ∷ rows) i n r s (omega arith) (and_parts _ _ h).1 a b
+next_rises (x ∷ y ∷ rows) (suc i) (suc n) r s e h a b = next_rises (y ∷ rows) i n r s (omega arith)
+    (and_parts _ _ h).1 a b
 
 words_rise : rises word_rows ≡ true
 words_rise = refl
 
 pub words_make_a_table : (fault : CaseFault) → ¬ (IsFault word_rows fault)
-words_make_a_table (NotRising n) f = f.falls (next_rises word_rows f.before n f.earlier f.later f.next words_rise f.earlier_at f.later_at)
+words_make_a_table (NotRising n) f =
+    f.falls (next_rises word_rows f.before n f.earlier f.later f.next words_rise f.earlier_at f.later_at)

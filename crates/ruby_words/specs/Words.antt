@@ -1,5 +1,7 @@
--- The words of Ruby that are no names, each with its code, in the order of their bytes. The 17 that the profile reserves have
--- the codes 1 to 17: module class def end if elsif else unless then return self nil true false raise include attr_reader.
+-- The words of Ruby that are no names, each with its code, in the order of their bytes. The 17 that the profile
+-- reserves have
+-- the codes 1 to 17: module class def end if elsif else unless then return self nil true false raise include
+-- attr_reader.
 -- The 30 that it leaves out have 18 to 47.
 use Rattle.std.specs.Prelude.{ℕ, List, [], ◌∷◌, codes}
 

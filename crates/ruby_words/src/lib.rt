@@ -1,4 +1,5 @@
-//! The words of Ruby that are no names, with their codes: the 17 that the profile reserves and the 30 that it leaves out.
+//! The words of Ruby that are no names, with their codes: the 17 that the profile reserves and the 30 that it leaves
+//! out.
 #![tactic(auto)]
 
 ghost use Rattle.std.specs.Prelude.{◌≡◌, ◌≤◌, ◌↔◌, IsTrue};

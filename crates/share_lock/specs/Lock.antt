@@ -1,10 +1,12 @@
 -- The whole lock, and what its calls make of it.
-use Rattle.std.specs.Prelude.{◌≡◌, ℕ, ◌+◌, ◌-◌, ◌<◌, ◌≤◌, ◌==◌, Bool, true, false, ◌||◌, if◌then◌else◌, List, length, replicate, Option, Some, None, is_some, slice_set, All}
+use Rattle.std.specs.Prelude.{◌≡◌, ℕ, ◌+◌, ◌-◌, ◌<◌, ◌≤◌, ◌==◌, Bool, true, false, ◌||◌, if◌then◌else◌, List, length}
+use Rattle.std.specs.Prelude.{replicate, Option, Some, None, is_some, slice_set, All}
 use Rattle.share_lock.specs.declared.seat.Wait.{Wait}
 use Rattle.share_lock.specs.declared.seat.Phase.{Phase}
 use Rattle.share_lock.specs.declared.seat.Phase.TheVariants.{Calm, Seeking, Releasing}
 use Rattle.share_lock.specs.declared.seat.Row.{Row}
-use Rattle.share_lock.specs.Rows.{rest, row_at, holds_shares, another, another_exclusive, busy_share, eligible, yielding, restoring, in_phase}
+use Rattle.share_lock.specs.Rows.{rest, row_at, holds_shares, another, another_exclusive, busy_share, eligible}
+use Rattle.share_lock.specs.Rows.{yielding, restoring, in_phase}
 
 -- the rows of all seats, the exclusive seat, and how many times over it is exclusive, which is 0 where none is
 pub record Lock : Type 0 where

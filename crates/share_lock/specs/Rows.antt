@@ -1,5 +1,7 @@
 -- The rows of a share lock, one for each seat, after ActiveSupport's ShareLock, whose threads are the seats here.
-use Rattle.std.specs.Prelude.{ℕ, ◌-◌, zero, suc, nat_lt, ◌==◌, bit_and, bit_or, Bool, true, false, not, ◌&&◌, ◌||◌, if◌then◌else◌, List, [], ◌∷◌, ◌++◌, length, take, Option, Some, None, is_none, slice_index_or}
+use Rattle.std.specs.Prelude.{ℕ, ◌-◌, zero, suc, nat_lt, ◌==◌, bit_and, bit_or, Bool, true, false, not, ◌&&◌, ◌||◌}
+use Rattle.std.specs.Prelude.{if◌then◌else◌, List, [], ◌∷◌, ◌++◌, length, take, Option, Some, None, is_none}
+use Rattle.std.specs.Prelude.{slice_index_or}
 use Rattle.std.specs.Int.{bit_at}
 use Rattle.std.specs.List.{list_any, enumerate_from}
 use Rattle.share_lock.specs.declared.seat.Wait.{Wait}
@@ -85,7 +87,8 @@ common_purpose (Some outer) (Some purpose) = if outer == purpose then Some purpo
 -- A wait inside another one has a purpose only where it is that one's too, and a list of what both admit.
 abbrev pub inside : Option Wait → Wait → Wait
 inside None wait = wait
-inside (Some outer) wait = record { purpose = common_purpose outer.purpose wait.purpose; list = bit_and wait.list outer.list }
+inside (Some outer) wait =
+    record { purpose = common_purpose outer.purpose wait.purpose; list = bit_and wait.list outer.list }
 
 -- a wait that doesn't block new shares admits them
 abbrev pub admitting : Bool → Wait → Wait

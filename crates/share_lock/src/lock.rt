@@ -1,7 +1,11 @@
-ghost use Rattle.std.specs.Prelude.{◌≡◌, ◌≢◌, ◌<◌, ◌≤◌, ◌+◌, ◌-◌, ◌⊎◌, ℕ, length, true, false, slice_get, IfOk, Bool, if◌then◌else◌};
+ghost use Rattle.std.specs.Prelude.{◌≡◌, ◌≢◌, ◌<◌, ◌≤◌, ◌+◌, ◌-◌, ◌⊎◌, ℕ, length, true, false, slice_get, IfOk, Bool};
+ghost use Rattle.std.specs.Prelude.{if◌then◌else◌};
 ghost use Rattle.share_lock.specs.declared.seat.Row.{Row};
-ghost use Rattle.share_lock.specs.Rows.{has, another, another_exclusive, busy_share, busy_exclusive, eligible, is_nothing, last_saved};
-ghost use Rattle.share_lock.specs.Lock.{IsSound, lock_at_rest, owns, row_of, changed_at, taken_by, released, refuses_share, holds_back, with_share, without_share, seeking, releasing, yielded, restored};
+ghost use Rattle.share_lock.specs.Rows.{has, another, another_exclusive, busy_share, busy_exclusive, eligible};
+ghost use Rattle.share_lock.specs.Rows.{is_nothing, last_saved};
+ghost use Rattle.share_lock.specs.Lock.{IsSound, lock_at_rest, owns, row_of, changed_at, taken_by, released};
+ghost use Rattle.share_lock.specs.Lock.{refuses_share, holds_back, with_share, without_share, seeking, releasing};
+ghost use Rattle.share_lock.specs.Lock.{yielded, restored};
 
 use crate::answers::{Holds, Resume, Share, Start, Stop};
 use crate::row_list::Rows;
@@ -70,7 +74,8 @@ impl LockState {
         self.rows.unshare(seat as usize);
     }
 
-    /// Becomes exclusive, once more if the seat is so already. Where that is busy and it may wait, the seat yields what it
+    /// Becomes exclusive, once more if the seat is so already. Where that is busy and it may wait, the seat yields
+    /// what it
     /// has to seats with a purpose in `list`, and seeks.
     pub fn start_exclusive(&mut self, seat: u32, purpose: u8, list: u8, no_wait: bool) -> Start
         requires seat { seat < length self.old.rows }
@@ -114,7 +119,8 @@ impl LockState {
         Start::Seeking
     }
 
-    /// Ends being exclusive once. Where no seat is exclusive then and some waiting seat can go first, the seat yields what it
+    /// Ends being exclusive once. Where no seat is exclusive then and some waiting seat can go first, the seat yields
+    /// what it
     /// has to seats with a purpose in `list`, and waits.
     pub fn stop_exclusive(&mut self, seat: u32, list: u8) -> Stop
         requires seat { seat < length self.old.rows }
@@ -320,7 +326,8 @@ pub fn exclusive_is_alone(lock: &LockState)
     let _ = &lock.depth;
 }
 
-/// Another seat is one of a different number: some row but the seat's own passes a test exactly where `another` says so.
+/// Another seat is one of a different number: some row but the seat's own passes a test exactly where `another` says
+/// so.
 pub fn another_is_some_other_seat(lock: &LockState)
     ensures found { (test : Row → Bool) (owner seat : ℕ) (row : Row) → seat ≢ owner
         → slice_get lock.now.rows seat ≡ Some row → test row ≡ true → another test lock.now.rows owner ≡ true }

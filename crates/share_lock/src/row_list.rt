@@ -1,5 +1,7 @@
-ghost use Rattle.std.specs.Prelude.{◌≡◌, ◌<◌, ◌+◌, ◌-◌, ◌++◌, ◌∷◌, [], length, slice_get, slice_set, Some, OnOk, OnErr, IfOk};
-ghost use Rattle.share_lock.specs.Rows.{another, waits_without, holds_shares, is_open_to, purpose_of, eligible, row_at, yielding, restoring, in_phase};
+ghost use Rattle.std.specs.Prelude.{◌≡◌, ◌<◌, ◌+◌, ◌-◌, ◌++◌, ◌∷◌, [], length, slice_get, slice_set, Some, OnOk, OnErr};
+ghost use Rattle.std.specs.Prelude.{IfOk};
+ghost use Rattle.share_lock.specs.Rows.{another, waits_without, holds_shares, is_open_to, purpose_of, eligible, row_at};
+ghost use Rattle.share_lock.specs.Rows.{yielding, restoring, in_phase};
 ghost use Rattle.share_lock.specs.declared.seat.Phase.TheVariants.{Calm};
 
 use crate::counts::Counts;
@@ -117,7 +119,8 @@ impl Rows {
     pub(crate) fn share(&mut self, seat: usize)
         requires seat { seat < length self.old }
         requires few { (row_at self.old seat).shares < 1000 }
-        ensures { self.new ≡ slice_set self.old seat (let row = row_at self.old seat in record row { shares = row.shares + 1 }) }
+        ensures { self.new ≡ slice_set self.old seat (let row = row_at self.old seat in
+            record row { shares = row.shares + 1 }) }
     {
         let row = &mut self.rows[seat];
         self.counts.leave(row);
@@ -128,7 +131,8 @@ impl Rows {
     pub(crate) fn unshare(&mut self, seat: usize)
         requires seat { seat < length self.old }
         requires some { 0 < (row_at self.old seat).shares }
-        ensures { self.new ≡ slice_set self.old seat (let row = row_at self.old seat in record row { shares = row.shares - 1 }) }
+        ensures { self.new ≡ slice_set self.old seat (let row = row_at self.old seat in
+            record row { shares = row.shares - 1 }) }
     {
         let row = &mut self.rows[seat];
         self.counts.leave(row);

@@ -34,13 +34,16 @@ one_first_slash (x ∷ a) b (y ∷ c) d p q e =
     (rw (head, rest.0) refl, rest.1)
 
 -- a target is read in one way
-pub one_target : (target rest front back controller action : List ℕ) → target ≡ 47 ∷ rest → rest ≡ front ++ 47 ∷ back → IsSegment front
+pub one_target : (target rest front back controller action : List ℕ) → target ≡ 47 ∷ rest →
+    rest ≡ front ++ 47 ∷ back → IsSegment front
     → IsFirstTarget target controller action → (front ≡ controller) × (back ≡ action)
 one_target target rest front back controller action begins splits segment is =
-    let tail : rest ≡ controller ++ 47 ∷ action = let whole : ◌≡◌ {A = List ℕ} (47 ∷ rest) (47 ∷ (controller ++ 47 ∷ action)) = sym begins ∙ is.0 in cc in
+    let tail : rest ≡ controller ++ 47 ∷ action = let whole : ◌≡◌ {A = List ℕ} (47 ∷ rest)
+    (47 ∷ (controller ++ 47 ∷ action)) = sym begins ∙ is.0 in cc in
     one_first_slash front back controller action segment (letters_have_none controller is.1.1) (sym splits ∙ tail)
 
-pub no_other_target : (target rest front back controller action : List ℕ) → target ≡ 47 ∷ rest → rest ≡ front ++ 47 ∷ back → IsSegment front
+pub no_other_target : (target rest front back controller action : List ℕ) → target ≡ 47 ∷ rest →
+    rest ≡ front ++ 47 ∷ back → IsSegment front
     → ¬ (IsLetters front × IsLetters back) → ¬ (IsFirstTarget target controller action)
 no_other_target target rest front back controller action begins splits segment unlike is =
     let same = one_target target rest front back controller action begins splits segment is in

@@ -1,5 +1,6 @@
 -- What a command writes, and how it ends.
-use Rattle.std.specs.Prelude.{◌≡◌, ◌≢◌, ◌⊎◌, ℕ, ◌<◌, ◌==◌, List, [], ◌∷◌, ◌++◌, length, take, codes, All, Any, Option, IfSome, if◌then◌else◌, ⊤}
+use Rattle.std.specs.Prelude.{◌≡◌, ◌≢◌, ◌⊎◌, ℕ, ◌<◌, ◌==◌, List, [], ◌∷◌, ◌++◌, length, take, codes, All, Any, Option}
+use Rattle.std.specs.Prelude.{IfSome, if◌then◌else◌, ⊤}
 use Rattle.outside.specs.Told.{appended}
 use Rattle.outside.specs.declared.files.FileEntry.{FileEntry}
 use Rattle.ruby_types.specs.declared.request.Reply.{Reply}
@@ -12,7 +13,8 @@ use Rattle.tree_report.specs.declared.refusal.Refusal.{Refusal}
 use Rattle.tree_command.specs.Tree.{IsTreeListing, IsRefused}
 use Rattle.top_calls.specs.Response.{response_bytes}
 use Rattle.top_calls.specs.declared.status.Status.{Status}
-use Rattle.top_calls.specs.declared.status.Status.TheVariants.{Done, Negative, FaultyWords, TreeFault, WriteFault, Memory, Refused, NotBuilt}
+use Rattle.top_calls.specs.declared.status.Status.TheVariants.{Done, Negative, FaultyWords, TreeFault, WriteFault}
+use Rattle.top_calls.specs.declared.status.Status.TheVariants.{Memory, Refused, NotBuilt}
 
 -- the exit status
 abbrev pub code_of : Status → ℕ
@@ -27,7 +29,8 @@ code_of NotBuilt = 11
 
 -- the words are `get TARGET`, and the target is `/CONTROLLER/ACTION`
 abbrev pub IsFirstGet : List (List ℕ) → (controller action : List ℕ) → Type 0
-IsFirstGet words controller action = (target : List ℕ) × (words ≡ codes "get" ∷ target ∷ []) × IsTarget target × IsFirstTarget target controller action
+IsFirstGet words controller action = (target : List ℕ) × (words ≡ codes "get" ∷ target ∷ []) × IsTarget target
+    × IsFirstTarget target controller action
 
 -- the command `tree`
 abbrev pub tree_words : List (List ℕ)
@@ -35,7 +38,8 @@ tree_words = codes "tree" ∷ []
 
 -- the words are another command, or they are `get` with another target
 abbrev pub IsOtherCommand : List (List ℕ) → Type 0
-IsOtherCommand words = IsCommandLine words × ((controller action : List ℕ) → ¬ (IsFirstGet words controller action)) × (words ≢ tree_words)
+IsOtherCommand words = IsCommandLine words × ((controller action : List ℕ) → ¬ (IsFirstGet words controller action))
+    × (words ≢ tree_words)
 
 -- the application is too large, or some file is not readable
 abbrev pub IsOtherApplication : List FileEntry → Type 0
@@ -43,7 +47,8 @@ IsOtherApplication files = ¬ (IsWithinLimits files) ⊎ Any (λ file. ¬ (IsRea
 
 -- what was asked for on these files is not built yet
 abbrev pub IsNotBuilt : List (List ℕ) → List FileEntry → Type 0
-IsNotBuilt words files = IsOtherCommand words ⊎ ((controller action : List ℕ) × IsFirstGet words controller action × IsOtherApplication files)
+IsNotBuilt words files = IsOtherCommand words
+    ⊎ ((controller action : List ℕ) × IsFirstGet words controller action × IsOtherApplication files)
 
 -- the words are `tree`, and the application is refused
 abbrev pub IsTreeRefused : List (List ℕ) → List FileEntry → Type 0
@@ -70,7 +75,8 @@ pub data Answer (files : List FileEntry) (controller action : List ℕ) : List �
   replies : (reply : Reply) → IsWithinLimits files → All IsReadable files → FirstReply files controller action reply
       → Answer files controller action (response_bytes reply (generation_of files)) (status_of reply)
 
--- The output of `tree` on an application's files, and its status: its constants and their files, or one line that says why
+-- The output of `tree` on an application's files, and its status: its constants and their files, or one line that
+-- says why
 -- the application is refused.
 pub data TreeAnswer (files : List FileEntry) : List ℕ → Status → Type 0 where
   lists : (bytes : List ℕ) → IsTreeListing files bytes → TreeAnswer files bytes Done
@@ -80,9 +86,11 @@ pub data TreeAnswer (files : List FileEntry) : List ℕ → Status → Type 0 wh
 pub data Output (words : List (List ℕ)) (files : List FileEntry) : List ℕ → Status → Type 0 where
   faulty_words : ¬ (IsCommandLine words) → Output words files [] FaultyWords
   other_command : IsOtherCommand words → Output words files not_built_line NotBuilt
-  answers : (controller action output : List ℕ) (own : Status) → IsFirstGet words controller action → Answer files controller action output own
+  answers : (controller action output : List ℕ) (own : Status) → IsFirstGet words controller action →
+      Answer files controller action output own
       → Output words files output own
-  tells : (output : List ℕ) (own : Status) → words ≡ tree_words → TreeAnswer files output own → Output words files output own
+  tells : (output : List ℕ) (own : Status) → words ≡ tree_words → TreeAnswer files output own →
+      Output words files output own
 
 -- a status that an answer can have, once the files are read
 abbrev pub IsOfAnswer : Status → Type 0
@@ -90,7 +98,8 @@ IsOfAnswer FaultyWords = ⊥
 IsOfAnswer TreeFault = ⊥
 IsOfAnswer status = ⊤
 
--- The output was written and the status is its own. Where a write failed, some of it was written, from its front and not
+-- The output was written and the status is its own. Where a write failed, some of it was written, from its front and
+-- not
 -- all. After want of memory nothing was.
 abbrev pub Writes : (output : List ℕ) (own : Status) → Status → (before now : Option (List ℕ)) → Type 0
 Writes output own Memory before now = now ≡ before
@@ -100,10 +109,12 @@ Writes output own status before now = (status ≡ own) × (now ≡ appended befo
 -- an output of which this holds was written so
 abbrev pub WritesOne : (List ℕ → Status → Type 0) → Status → (before now : Option (List ℕ)) → Type 0
 WritesOne Is Memory before now = now ≡ before
-WritesOne Is status before now = (output : List ℕ) × (own : Status) × Is output own × Writes output own status before now
+WritesOne Is status before now = (output : List ℕ) × (own : Status) × Is output own
+    × Writes output own status before now
 
 -- What was written where the files were asked for: nothing where they could not be read, else their output.
-abbrev pub WritesOn : (Option (List FileEntry)) → (List FileEntry → List ℕ → Status → Type 0) → Status → (before now : Option (List ℕ)) → Type 0
+abbrev pub WritesOn : (Option (List FileEntry)) → (List FileEntry → List ℕ → Status → Type 0) → Status →
+    (before now : Option (List ℕ)) → Type 0
 WritesOn held Is TreeFault before now = now ≡ before
 WritesOn held Is Memory before now = now ≡ before
 WritesOn held Is status before now = IfSome held (λ files. WritesOne (Is files) status before now)

@@ -25,4 +25,5 @@ head_bytes status reason length generation =
 
 -- the head and the body
 abbrev pub response_bytes : Reply → (generation : ℕ) → List ℕ
-response_bytes reply generation = head_bytes reply.status (reason_of reply.status) (length reply.body) generation ++ reply.body
+response_bytes reply generation = head_bytes reply.status (reason_of reply.status) (length reply.body) generation ++
+    reply.body

@@ -5,7 +5,8 @@ use Rattle.load_rules.specs.Names.{IsLetters}
 
 -- the target is `/NAME/ACTION`, both of letters `a` to `z`
 abbrev pub IsFirstTarget : List ℕ → (controller action : List ℕ) → Type 0
-IsFirstTarget target controller action = (target ≡ 47 ∷ (controller ++ 47 ∷ action)) × IsLetters controller × IsLetters action
+IsFirstTarget target controller action = (target ≡ 47 ∷ (controller ++ 47 ∷ action)) × IsLetters controller
+    × IsLetters action
 
 abbrev pub is_no_slash : ℕ → Bool
 is_no_slash byte = not (byte == 47)

@@ -6,9 +6,12 @@ ghost use Rattle.tree_report.specs.Limits.{IsWithinLimits};
 ghost use Rattle.tree_report.specs.Refusals.{refusal_text};
 ghost use Rattle.top_calls.specs.Command.{words_of};
 ghost use Rattle.top_calls.specs.Response.{response_bytes};
-ghost use Rattle.top_calls.specs.Output.{code_of, not_built_line, generation_of, status_of, IsFirstGet, IsOtherCommand, IsTreeRefused, tree_words, Answer, TreeAnswer, Output, IsOfAnswer, IsNotBuilt, IsFault, Writes, WritesOne, WritesOn};
+ghost use Rattle.top_calls.specs.Output.{code_of, not_built_line, generation_of, status_of, IsFirstGet, IsOtherCommand};
+ghost use Rattle.top_calls.specs.Output.{IsTreeRefused, tree_words, Answer, TreeAnswer, Output, IsOfAnswer, IsNotBuilt};
+ghost use Rattle.top_calls.specs.Output.{IsFault, Writes, WritesOne, WritesOn};
 ghost use Rattle.top_calls.specs.declared.status.Status.{Status as StatusValue};
-ghost use Rattle.top_calls.specs.declared.status.Status.TheVariants.{Done, FaultyWords, Memory, WriteFault, Refused, NotBuilt};
+ghost use Rattle.top_calls.specs.declared.status.Status.TheVariants.{Done, FaultyWords, Memory, WriteFault, Refused};
+ghost use Rattle.top_calls.specs.declared.status.Status.TheVariants.{NotBuilt};
 
 use crate::response::print_response;
 use crate::status::Status;
@@ -36,7 +39,8 @@ fn refuse<O: Sink>(out: &mut O) -> Status
 /// Sends the response with this reply.
 fn send<O: Sink>(alloc: Global, reply: &Reply, generation: u32, out: &mut O) -> Status
     requires { (reply.now.status ≡ 200) ⊎ (reply.now.status ≡ 404) ⊎ (reply.now.status ≡ 500) }
-    ensures written { Writes (response_bytes reply.now generation) (status_of reply.now) result (O.written out.old) (O.written out.new) }
+    ensures written { Writes (response_bytes reply.now generation) (status_of reply.now) result (O.written out.old)
+        (O.written out.new) }
     ensures faults { Counts (code_of result == 4) (O.faults out.old) (O.faults out.new) }
     ensures own_status { IsOfAnswer result }
 {
@@ -72,7 +76,8 @@ fn answer_within<O: Sink>(
     out: &mut O,
 ) -> Status
     requires { IsWithinLimits snapshot.now.files }
-    ensures written { WritesOne (Answer snapshot.now.files target.now.controller.now target.now.action.now) result (O.written out.old) (O.written out.new) }
+    ensures written { WritesOne (Answer snapshot.now.files target.now.controller.now target.now.action.now) result
+        (O.written out.old) (O.written out.new) }
     ensures faults { Counts (code_of result == 4) (O.faults out.old) (O.faults out.new) }
     ensures own_status { IsOfAnswer result }
 {
@@ -94,7 +99,8 @@ fn answer_on<O: Sink>(
     target: &Target<'_>,
     out: &mut O,
 ) -> Status
-    ensures written { WritesOne (Answer snapshot.now.files target.now.controller.now target.now.action.now) result (O.written out.old) (O.written out.new) }
+    ensures written { WritesOne (Answer snapshot.now.files target.now.controller.now target.now.action.now) result
+        (O.written out.old) (O.written out.new) }
     ensures faults { Counts (code_of result == 4) (O.faults out.old) (O.faults out.new) }
     ensures own_status { IsOfAnswer result }
 {
@@ -108,7 +114,9 @@ fn answer_on<O: Sink>(
 /// Answers a request on the files of the tree.
 #[tactic(auto, using(crate::proofs::Outputs::written_on, crate::proofs::Outputs::no_tree_fault))]
 fn answer<T: Tree, O: Sink>(alloc: Global, target: &Target<'_>, tree: &mut T, out: &mut O) -> Status
-    ensures written { WritesOn (T.holds tree.new) (λ files. Answer files target.now.controller.now target.now.action.now) result (O.written out.old) (O.written out.new) }
+    ensures written { WritesOn (T.holds tree.new)
+        (λ files. Answer files target.now.controller.now target.now.action.now) result (O.written out.old)
+        (O.written out.new) }
     ensures tree_faults { Counts (code_of result == 3) (T.faults tree.old) (T.faults tree.new) }
     ensures write_faults { Counts (code_of result == 4) (O.faults out.old) (O.faults out.new) }
     ensures not_faulty { result ≢ FaultyWords }
@@ -134,7 +142,8 @@ fn write_listing<O: Sink>(bytes: &[u8], out: &mut O) -> Status
 
 /// Says in one line why the application is refused.
 fn write_refusal<O: Sink>(alloc: Global, refusal: &Refusal, out: &mut O) -> Status
-    ensures written { Writes (refusal_text refusal.now ++ 10 ∷ []) Refused result (O.written out.old) (O.written out.new) }
+    ensures written { Writes (refusal_text refusal.now ++ 10 ∷ []) Refused result (O.written out.old)
+        (O.written out.new) }
     ensures faults { Counts (code_of result == 4) (O.faults out.old) (O.faults out.new) }
     ensures own_status { IsOfAnswer result }
 {
@@ -201,7 +210,8 @@ fn only_word(arguments: &[Text]) -> Option<&Text>
 fn first_get<'a>(arguments: &'a [Text]) -> Option<Target<'a>>
     requires { FitsGet arguments.now }
     ensures found { IfSome result (λ t. IsFirstGet (codes "get" ∷ arguments.now) t.controller.now t.action.now) }
-    ensures none { IfNone result ((controller action : List ℕ) → ¬ (IsFirstGet (codes "get" ∷ arguments.now) controller action)) }
+    ensures none { IfNone result ((controller action : List ℕ) →
+        ¬ (IsFirstGet (codes "get" ∷ arguments.now) controller action)) }
 {
     let word = only_word(arguments)?;
     let target = first_target(word.as_bytes())?;
@@ -212,7 +222,8 @@ fn first_get<'a>(arguments: &'a [Text]) -> Option<Target<'a>>
 fn first_request<'a>(command: &CommandLine<'a>) -> Option<Target<'a>>
     requires { Fits command.now.name command.now.arguments.now }
     ensures found { IfSome result (λ t. IsFirstGet (words_of command.now) t.controller.now t.action.now) }
-    ensures none { IfNone result ((controller action : List ℕ) → ¬ (IsFirstGet (words_of command.now) controller action)) }
+    ensures none { IfNone result ((controller action : List ℕ) →
+        ¬ (IsFirstGet (words_of command.now) controller action)) }
 {
     match command.name {
         CommandName::Get => first_get(command.arguments),
@@ -262,7 +273,8 @@ pub fn once_main<S: Source, T: Tree, O: Sink>(
     out: &mut O,
 ) -> u8
     // The output and the status are those of the words on the files that the tree tells.
-    ensures written { (status : StatusValue) × (result ≡ code_of status) × WritesOn (T.holds tree.new) (Output words.now) status (O.written out.old) (O.written out.new) }
+    ensures written { (status : StatusValue) × (result ≡ code_of status)
+        × WritesOn (T.holds tree.new) (Output words.now) status (O.written out.old) (O.written out.new) }
     ensures silent { (result ≡ 2) ⊎ ((result ≡ 3) ⊎ (result ≡ 5)) → O.written out.new ≡ O.written out.old }
 
     // Each fault has its status, exactly where it comes.
@@ -271,9 +283,11 @@ pub fn once_main<S: Source, T: Tree, O: Sink>(
     ensures tree_faults { Counts (result == 3) (T.faults tree.old) (T.faults tree.new) }
     ensures write_faults { Counts (result == 4) (O.faults out.old) (O.faults out.new) }
     ensures refused { IfSome (T.holds tree.new) (λ files. result ≡ 6 → IsTreeRefused words.now files) }
-    ensures refused_only { IfSome (T.holds tree.new) (λ files. IsTreeRefused words.now files → (result ≡ 6) ⊎ IsFault result) }
+    ensures refused_only { IfSome (T.holds tree.new) (λ files. IsTreeRefused words.now files → (result ≡ 6)
+        ⊎ IsFault result) }
     ensures not_built { IfSome (T.holds tree.new) (λ files. result ≡ 11 → IsNotBuilt words.now files) }
-    ensures not_built_only { IfSome (T.holds tree.new) (λ files. IsNotBuilt words.now files → (result ≡ 11) ⊎ IsFault result) }
+    ensures not_built_only { IfSome (T.holds tree.new) (λ files. IsNotBuilt words.now files → (result ≡ 11)
+        ⊎ IsFault result) }
 
     // What is not built yet is told by the words before the tree is read, where they tell it.
     ensures unread { IsOtherCommand words.now → tree.new ≡ tree.old }

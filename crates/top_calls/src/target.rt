@@ -45,7 +45,8 @@ fn are_letters(controller: &[u8], action: &[u8]) -> bool
 /// Reads a target `/NAME/ACTION`, both of letters `a` to `z`. None for every other target.
 pub fn first_target(target: &[u8]) -> Option<Target<'_>>
     ensures found { IfSome result (λ t. IsFirstTarget target.now t.controller.now t.action.now) }
-    ensures only { (controller action : List ℕ) → IsFirstTarget target.now controller action → IsSomeAnd result (λ t. (t.controller.now ≡ controller) × (t.action.now ≡ action)) }
+    ensures only { (controller action : List ℕ) → IsFirstTarget target.now controller action →
+        IsSomeAnd result (λ t. (t.controller.now ≡ controller) × (t.action.now ≡ action)) }
 {
     let rest = behind_slash(target)?;
     let (controller, action) = split_at_slash(rest)?;

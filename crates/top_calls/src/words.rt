@@ -1,7 +1,8 @@
 //! Command lines.
 ghost use Rattle.std.specs.Prelude.{◌≡◌, ℕ, ◌^◌, ◌<◌, ◌≤◌, ◌↔◌, IsTrue, IfOk};
 ghost use Rattle.std.specs.Fmt.{decimal};
-ghost use Rattle.top_calls.specs.Words.{IsTarget, IsNumber, IsAddress, AreConnections, FitsGet, FitsCheck, FitsDemo, FitsServe, Fits, name_of};
+ghost use Rattle.top_calls.specs.Words.{IsTarget, IsNumber, IsAddress, AreConnections, FitsGet, FitsCheck, FitsDemo};
+ghost use Rattle.top_calls.specs.Words.{FitsServe, Fits, name_of};
 ghost use Rattle.top_calls.specs.Command.{Finds};
 
 use ruby_types::{Text, TextList};

@@ -10,7 +10,8 @@ use Rattle.tree_report.specs.Configurations.{IsConfiguration}
 use Rattle.tree_command.specs.Faults.{of_scan}
 use Rattle.tree_command.specs.Tree.{IsTreeFault}
 
-pub fault_told : (files : List FileEntry) (config : Config) (fault : ScanFault) → IsWithinLimits files → IsConfiguration files config → IsFault files config fault → IsTreeFault files (of_scan fault)
+pub fault_told : (files : List FileEntry) (config : Config) (fault : ScanFault) → IsWithinLimits files →
+    IsConfiguration files config → IsFault files config fault → IsTreeFault files (of_scan fault)
 fault_told files config (BadName path) within configured is = (within, (config, configured, is))
 fault_told files config (TwoRoots path) within configured is = (within, (config, configured, is))
 fault_told files config Memory within configured is = tt

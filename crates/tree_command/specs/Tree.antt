@@ -36,7 +36,8 @@ listed files row = site_of row.path (place_of files row.site)
 -- The rows are those of the constants that have a site by these spellings, each constant once.
 pub record AreRows (scanned : Scanned) (rows : List SiteRow) : Type 0 where
   pub sites : All (λ row. IsSite (Lists scanned.spelled) row.path row.site) rows
-  pub complete : (path : List (List ℕ)) (found : Site) → IsSite (Lists scanned.spelled) path found → Contains (paths_of_rows rows) path
+  pub complete : (path : List (List ℕ)) (found : Site) → IsSite (Lists scanned.spelled) path found →
+      Contains (paths_of_rows rows) path
   pub once : AllPairs (λ row later. IsBeforePath row.path later.path) rows
 
 -- a line for each constant with a site, and one for each shadowed file

@@ -4,9 +4,9 @@ ghost use Rattle.tree_command.specs.Tree.{place_of, listed};
 
 use lists::Copying;
 use outside::{FileEntry, FilePath};
-use tree_scan_sites::{Site, SiteRow};
 use std::alloc::{AllocError, Global};
 use tree_report::{ListedSite, Place};
+use tree_scan_sites::{Site, SiteRow};
 
 fn path_at(alloc: Global, files: &[FileEntry], number: u32) -> Result<FilePath, AllocError>
     ensures { IfOk result (λ path. path ≡ path_at files.now number) }

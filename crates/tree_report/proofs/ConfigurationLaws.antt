@@ -10,8 +10,10 @@ use Rattle.tree_report.specs.Configurations.{is_configuration, configuration_tex
 abbrev pub IsSmall : FileEntry → Type 0
 IsSmall file = length file.bytes < 2 ^ 32
 
-small_here : (file : FileEntry) (files : List FileEntry) (test : Bool) → IsSmall file → length (configuration_text files) < 2 ^ 32
-    → length (option_map_or (λ (f : FileEntry). f.bytes) (cond test (Some file) (find is_configuration files)) []) < 2 ^ 32
+small_here : (file : FileEntry) (files : List FileEntry) (test : Bool) → IsSmall file →
+    length (configuration_text files) < 2 ^ 32
+    → length (option_map_or (λ (f : FileEntry). f.bytes) (cond test (Some file) (find is_configuration files)) []) <
+    2 ^ 32
 small_here file files true small rest = small
 small_here file files false small rest = rest
 
@@ -19,4 +21,5 @@ small_here file files false small rest = rest
 pub text_is_small : (files : List FileEntry) → All IsSmall files → length (configuration_text files) < 2 ^ 32
 text_is_small [] all = grind (arith, common_steps)
 text_is_small (file ∷ files) all =
-    small_here file files (is_configuration file) (all 0 file (grind (arith, common_steps))) (text_is_small files (All-tail IsSmall file files all))
+    small_here file files (is_configuration file) (all 0 file (grind (arith, common_steps)))
+    (text_is_small files (All-tail IsSmall file files all))

@@ -1,5 +1,6 @@
 -- The order of a listing.
-use Rattle.std.proofs.Common.{◌≡◌, ℕ, ◌<◌, ◌≤◌, Bool, List, length, AllPairs, slice_index_or, true, false, refl, sym, ap, arith}
+use Rattle.std.proofs.Common.{◌≡◌, ℕ, ◌<◌, ◌≤◌, Bool, List, length, AllPairs, slice_index_or, true, false, refl, sym}
+use Rattle.std.proofs.Common.{ap, arith}
 use Rattle.std.specs.Ordering.{is_lt, nat_cmp}
 use Rattle.std.specs.Cmp.{IsStrictWeakOrder}
 use Rattle.std.specs.List.Sorted.{IsSortedBy}
@@ -19,6 +20,8 @@ not_before : (a b : List ℕ) → is_lt (order a b) ≡ false → IsBefore a b �
 not_before a b f h = let t : is_lt (order a b) ≡ true = ap is_lt h in cc
 
 -- sorted sites are in order
-pub sorted_is_ordered : (sites : List ListedSite) → IsSortedBy comes_before sites → AllPairs (λ (site later : ListedSite). ¬ (IsBefore later.constant site.constant)) sites
+pub sorted_is_ordered : (sites : List ListedSite) → IsSortedBy comes_before sites →
+    AllPairs (λ (site later : ListedSite). ¬ (IsBefore later.constant site.constant)) sites
 sorted_is_ordered sites up = λ i j d low high before.
-    not_before (slice_index_or sites j d).constant (slice_index_or sites i d).constant (sorted_far comes_before comes_before-is-order sites up i j d (omega arith) high) before
+    not_before (slice_index_or sites j d).constant (slice_index_or sites i d).constant
+    (sorted_far comes_before comes_before-is-order sites up i j d (omega arith) high) before

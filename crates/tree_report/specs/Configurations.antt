@@ -17,7 +17,8 @@ configuration_text files = option_map_or (λ file. file.bytes) (find is_configur
 
 -- no line of that text has a fault, and this is what the lines say
 abbrev pub IsConfiguration : List FileEntry → Config → Type 0
-IsConfiguration files config = (faults (configuration_text files) ≡ []) × (config ≡ configuration (configuration_text files))
+IsConfiguration files config = (faults (configuration_text files) ≡ [])
+    × (config ≡ configuration (configuration_text files))
 
 -- this is the first fault of that text
 abbrev pub IsConfigurationFault : List FileEntry → ConfigFault → Type 0

@@ -20,11 +20,14 @@ has_long_path file = nat_lt 255 (length file.path)
 
 -- the first path of more than 255 bytes has this length
 abbrev pub IsFirstLongPath : List FileEntry → (number : ℕ) → Type 0
-IsFirstLongPath files number = (front : List FileEntry) × (file : FileEntry) × (back : List FileEntry) × (files ≡ front ++ file ∷ back)
+IsFirstLongPath files number = (front : List FileEntry) × (file : FileEntry) × (back : List FileEntry)
+    × (files ≡ front ++ file ∷ back)
     × All (λ f. length f.path ≤ 255) front × (255 < length file.path) × (number ≡ length file.path)
 
--- The files exceed this limit and none that is judged before it: first their number, then their bytes, then their paths.
+-- The files exceed this limit and none that is judged before it: first their number, then their bytes, then their
+-- paths.
 abbrev pub IsExceeded : List FileEntry → Limit → (number : ℕ) → Type 0
 IsExceeded files Files number = (4096 < length files) × (number ≡ length files)
-IsExceeded files Bytes number = (length files ≤ 4096) × (4194304 < total_bytes files) × (number ≡ min (total_bytes files) (2 ^ 64 - 1))
+IsExceeded files Bytes number = (length files ≤ 4096) × (4194304 < total_bytes files)
+    × (number ≡ min (total_bytes files) (2 ^ 64 - 1))
 IsExceeded files Path number = (length files ≤ 4096) × (total_bytes files ≤ 4194304) × IsFirstLongPath files number

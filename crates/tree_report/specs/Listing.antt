@@ -33,4 +33,5 @@ pub record IsInOrder (sites listed : List ListedSite) : Type 0 where
 
 -- a line for each site in order, then a line for each shadowed file
 abbrev pub IsListing : (sites : List ListedSite) → (shadowed : List (List ℕ)) → List ℕ → Type 0
-IsListing sites shadowed bytes = (listed : List ListedSite) × IsInOrder sites listed × (bytes ≡ flat_map site_line listed ++ flat_map shadowed_line shadowed)
+IsListing sites shadowed bytes = (listed : List ListedSite) × IsInOrder sites listed
+    × (bytes ≡ flat_map site_line listed ++ flat_map shadowed_line shadowed)

@@ -3,7 +3,8 @@ use Rattle.std.specs.Prelude.{ℕ, List, [], ◌∷◌, ◌++◌, codes}
 use Rattle.std.specs.Fmt.{decimal}
 use Rattle.app_config.specs.declared.config.ConfigFault.{ConfigFault}
 use Rattle.app_config.specs.declared.config.ConfigKind.{ConfigKind}
-use Rattle.app_config.specs.declared.config.ConfigKind.TheVariants.{UnknownWord, WordCount, BadPath, NotUtf8, Memory, BadName as BadConstant}
+use Rattle.app_config.specs.declared.config.ConfigKind.TheVariants.{UnknownWord, WordCount, BadPath, NotUtf8, Memory}
+use Rattle.app_config.specs.declared.config.ConfigKind.TheVariants.{BadName as BadConstant}
 use Rattle.tree_report.specs.declared.limits.Limit.{Limit as LimitKind}
 use Rattle.tree_report.specs.declared.limits.Limit.TheVariants.{Files, Bytes, Path}
 use Rattle.tree_report.specs.declared.limits.ExceededLimit.{ExceededLimit}

@@ -1,7 +1,8 @@
 ghost use Rattle.std.specs.Prelude.{◌≡◌, ◌≢◌, ◌<◌, ◌^◌, length, All, IfOk, IfErr};
 ghost use Rattle.std.specs.List.{find};
 ghost use Rattle.std.specs.Option.{option_map};
-ghost use Rattle.tree_report.specs.Configurations.{is_configuration, configuration_text, IsConfiguration, IsConfigurationFault};
+ghost use Rattle.tree_report.specs.Configurations.{is_configuration, configuration_text, IsConfiguration};
+ghost use Rattle.tree_report.specs.Configurations.{IsConfigurationFault};
 
 use app_config::{Config, ConfigFault, ConfigKind, read};
 use outside::FileEntry;

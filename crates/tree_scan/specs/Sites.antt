@@ -22,21 +22,26 @@ pub record ArePathsOf (files : List FileEntry) (IsOne : ℕ → Type 0) (paths :
   pub exact : (path : List ℕ) → Contains paths path ↔ ((file : ℕ) × HasPath files file path × IsOne file)
   pub rising : Rising paths
 
--- The sites of these files under this configuration: no two root lines have one path; over the application's roots, what is
--- listed is what the files spell, no name is bad, and the shadowed files are those that spell a constant of which they aren't
+-- The sites of these files under this configuration: no two root lines have one path; over the application's roots,
+-- what is
+-- listed is what the files spell, no name is bad, and the shadowed files are those that spell a constant of which
+-- they aren't
 -- the file.
 pub record AreSites (files : List FileEntry) (config : Config) (sites : Scanned) : Type 0 where
   pub once : NamesOnce config.roots
   pub roots : List Root
   pub are_roots : AreRoots (paths_of files) config.roots roots
-  pub spelled : (constant : List (List ℕ)) (root file : ℕ) → Lists sites.spelled constant root file ↔ Spells roots config files constant root file
+  pub spelled : (constant : List (List ℕ)) (root file : ℕ) →
+      Lists sites.spelled constant root file ↔ Spells roots config files constant root file
   pub named : All (λ f. ¬ (HasBadName roots config f.path)) files
   pub shadowed : ArePathsOf files (IsShadowed (Spells roots config files)) sites.shadowed
 
--- Why there are no sites: two root lines with one path; and where there are none, a bad name. Memory may run out anywhere.
+-- Why there are no sites: two root lines with one path; and where there are none, a bad name. Memory may run out
+-- anywhere.
 abbrev pub IsFault : List FileEntry → Config → ScanFault → Type 0
 IsFault files config (TwoRoots path) = IsTwoRoots config.roots path
-IsFault files config (BadName path) = NamesOnce config.roots × ((roots : List Root) × AreRoots (paths_of files) config.roots roots × IsFirstBadName roots config files path)
+IsFault files config (BadName path) = NamesOnce config.roots
+    × ((roots : List Root) × AreRoots (paths_of files) config.roots roots × IsFirstBadName roots config files path)
 IsFault files config Memory = ⊤
 
 -- the path of the file, if there is one

@@ -8,21 +8,25 @@ use Rattle.tree_scan_names.specs.Counts.{Counts}
 use Rattle.tree_scan_names.specs.Below.{SpellsBelow}
 use Rattle.tree_scan_names.specs.Spellings.{AreConstants}
 
--- A file that counts spells these names below the root of this number, which is the longest root above its path. The names
+-- A file that counts spells these names below the root of this number, which is the longest root above its path. The
+-- names
 -- are those of the directories below the root that aren't collapsed, and that of the file.
-pub record SpellsNames (roots : List Root) (config : Config) (path : List ℕ) (root : ℕ) (names : List (List ℕ)) : Type 0 where
+pub record SpellsNames (roots : List Root) (config : Config) (path : List ℕ) (root : ℕ)
+    (names : List (List ℕ)) : Type 0 where
   pub longest : IsLongestAbove roots path root
   pub counts : Counts config longest.root.path longest.above.0
   pub spelled : SpellsBelow config longest.root.path longest.above.0 names
 
 -- The constant that a path spells: its root's namespace, and then its names below the root.
-pub record SpellsConstant (roots : List Root) (config : Config) (path : List ℕ) (constant : List (List ℕ)) (root : ℕ) : Type 0 where
+pub record SpellsConstant (roots : List Root) (config : Config) (path : List ℕ) (constant : List (List ℕ))
+    (root : ℕ) : Type 0 where
   pub names : List (List ℕ)
   pub spells : SpellsNames roots config path root names
   pub joined : constant ≡ spells.longest.root.namespace ++ names
 
 -- The file of this number spells the constant.
-pub record Spells (roots : List Root) (config : Config) (files : List FileEntry) (constant : List (List ℕ)) (root file : ℕ) : Type 0 where
+pub record Spells (roots : List Root) (config : Config) (files : List FileEntry) (constant : List (List ℕ))
+    (root file : ℕ) : Type 0 where
   pub entry : FileEntry
   pub stands : slice_get files file ≡ Some entry
   pub spells : SpellsConstant roots config entry.path constant root

@@ -11,5 +11,5 @@ mod spelling;
 
 pub use fault::ScanFault;
 pub use scanning::scan;
-pub use tree_scan_sites::{Site, SiteRow};
 pub use sites::{FilePaths, Sites};
+pub use tree_scan_sites::{Site, SiteRow};

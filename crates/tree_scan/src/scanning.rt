@@ -10,9 +10,9 @@ use crate::spelling::spelled_by;
 use app_config::Config;
 use lists::Copying;
 use outside::{FileEntry, FilePath, Snapshot};
-use tree_scan_sites::SiteTable;
 use std::alloc::{AllocError, Global};
 use tree_scan_roots::RootTable;
+use tree_scan_sites::SiteTable;
 
 fn path_at(files: &[FileEntry], number: u32) -> &FilePath
     requires { number < length files.now }

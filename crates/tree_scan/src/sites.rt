@@ -8,8 +8,8 @@ ghost use Rattle.tree_scan_sites.specs.Paths.{IsBeforePath};
 use lists::Listed;
 use outside::FilePath;
 use ruby_types::CPath;
-use tree_scan_sites::{Names, Site, SiteRow, SiteTable};
 use std::marker::Model;
+use tree_scan_sites::{Names, Site, SiteRow, SiteTable};
 
 /// Paths of files.
 pub type FilePaths = Listed<FilePath>;
@@ -41,7 +41,8 @@ impl Sites {
     pub fn rows(&self) -> &[SiteRow]
         ensures sites { All (λ row. IsSite (Lists self.now.spelled) row.path row.site) result.now }
         ensures children { All (λ row. ListsChildren (Lists self.now.spelled) row.path row.children) result.now }
-        ensures complete { (path : List (List ℕ)) (site : SiteValue) → IsSite (Lists self.now.spelled) path site → Contains (paths_of_rows result.now) path }
+        ensures complete { (path : List (List ℕ)) (site : SiteValue) → IsSite (Lists self.now.spelled) path site →
+            Contains (paths_of_rows result.now) path }
         ensures rising { AllPairs (λ row later. IsBeforePath row.path later.path) result.now }
     {
         self.table.rows()

@@ -1,5 +1,6 @@
 //! What the files of a snapshot spell.
-ghost use Rattle.std.specs.Prelude.{◌≡◌, ◌≢◌, ◌↔◌, ◌<◌, ◌^◌, ◌++◌, [], ◌∷◌, ℕ, List, Some, None, length, slice_get, All, AllPairs, IfOk, IfErr, OnOk};
+ghost use Rattle.std.specs.Prelude.{◌≡◌, ◌≢◌, ◌↔◌, ◌<◌, ◌^◌, ◌++◌, [], ◌∷◌, ℕ, List, Some, None, length, slice_get};
+ghost use Rattle.std.specs.Prelude.{All, AllPairs, IfOk, IfErr, OnOk};
 ghost use Rattle.tree_scan_roots.specs.Roots.{root_paths};
 ghost use Rattle.tree_scan_sites.specs.Listed.{Lists};
 ghost use Rattle.tree_scan.specs.Spells.{SpellsConstant, Spells, HasBadName};
@@ -10,10 +11,10 @@ use app_config::Config;
 use lists::Copying;
 use outside::FileEntry;
 use ruby_types::{CPath, Text, TextList};
-use tree_scan_sites::Spelled;
 use std::alloc::{AllocError, Global};
 use tree_scan_names::{Spelling, names_below};
 use tree_scan_roots::{Root, RootTable};
+use tree_scan_sites::Spelled;
 
 /// A constant and the number of the root below which it is spelled.
 #[derive(Drop)]
@@ -57,7 +58,8 @@ fn constant_of(
     roots: &RootTable,
     file: &FileEntry,
 ) -> Result<Option<RootedConstant>, ScanFault>
-    ensures exact { IfOk result (λ found. (constant : List (List ℕ)) (root : ℕ) → SpelledBy found constant root ↔ SpellsConstant roots.now config.now file.now.path constant root) }
+    ensures exact { IfOk result (λ found. (constant : List (List ℕ)) (root : ℕ) →
+        SpelledBy found constant root ↔ SpellsConstant roots.now config.now file.now.path constant root) }
     ensures named { OnOk result (¬ (HasBadName roots.now config.now file.now.path)) }
     ensures fault { IfErr result (IsNameFaultOf roots.now config.now file.now.path) }
 {
@@ -91,7 +93,8 @@ pub(crate) fn spelled_by(
     files: &[FileEntry],
 ) -> Result<Vec<Spelled>, ScanFault>
     requires { length files.now < 2 ^ 32 }
-    ensures exact { IfOk result (λ spelled. (constant : List (List ℕ)) (root file : ℕ) → Lists spelled.items constant root file ↔ Spells roots.now config.now files.now constant root file) }
+    ensures exact { IfOk result (λ spelled. (constant : List (List ℕ)) (root file : ℕ) →
+        Lists spelled.items constant root file ↔ Spells roots.now config.now files.now constant root file) }
     ensures named { OnOk result (All (λ f. ¬ (HasBadName roots.now config.now f.path)) files.now) }
     ensures fault { IfErr result (IsNameFault roots.now config.now files.now) }
 {

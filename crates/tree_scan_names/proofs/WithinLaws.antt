@@ -37,7 +37,8 @@ front_cases (byte ∷ front) more (first ∷ here) rest all e =
     ]
 
 -- a path is cut at its first slash in one way
-pub cut_one : (here below other rest : List ℕ) → IsPiece here → IsPiece other → within here below ≡ within other rest → (here ≡ other) × (below ≡ rest)
+pub cut_one : (here below other rest : List ℕ) → IsPiece here → IsPiece other →
+    within here below ≡ within other rest → (here ≡ other) × (below ≡ rest)
 cut_one here below other rest h k e =
     elim (front_cases here below other rest k e) [
       | inl same ↦ same
@@ -49,12 +50,14 @@ cut_one here below other rest h k e =
 pub piece_front : (front rest : List ℕ) → IsPiece (front ++ rest) → IsPiece front
 piece_front [] rest all = All-nil (λ b. b ≢ slash)
 piece_front (byte ∷ front) rest all =
-    All-cons (λ b. b ≢ slash) byte front (piece_head byte (front ++ rest) all) (piece_front front rest (piece_tail byte (front ++ rest) all))
+    All-cons (λ b. b ≢ slash) byte front (piece_head byte (front ++ rest) all)
+    (piece_front front rest (piece_tail byte (front ++ rest) all))
 
 ending_piece : IsPiece ruby_ending
 ending_piece =
     All-cons (λ b. b ≢ slash) 46 (114 ∷ 98 ∷ []) (λ e. cc)
-    (All-cons (λ b. b ≢ slash) 114 (98 ∷ []) (λ e. cc) (All-cons (λ b. b ≢ slash) 98 [] (λ e. cc) (All-nil (λ b. b ≢ slash))))
+    (All-cons (λ b. b ≢ slash) 114 (98 ∷ []) (λ e. cc)
+    (All-cons (λ b. b ≢ slash) 98 [] (λ e. cc) (All-nil (λ b. b ≢ slash))))
 
 pub file_piece : (base : List ℕ) → IsPiece base → IsPiece (base ++ ruby_ending)
 file_piece base all = All-append (λ b. b ≢ slash) base ruby_ending all ending_piece
@@ -72,9 +75,14 @@ pub EndsInRb-behind : (path here below : List ℕ) → path ≡ within here belo
 EndsInRb-behind path here below e ends = ends_behind here below ends.0 (ends.1 ∙ e)
 
 pub EndsInRb-within : (here below : List ℕ) → EndsInRb below → EndsInRb (within here below)
-EndsInRb-within here below ends = (within here ends.0, append_assoc here (47 ∷ ends.0) ruby_ending ∙ ap (within here) ends.1)
+EndsInRb-within here below ends = (
+  within here ends.0,
+  append_assoc here (47 ∷ ends.0) ruby_ending
+      ∙ ap (within here) ends.1,
+)
 
 -- a step further on a path's way
-pub way_step : (path directory left name place rest : List ℕ) → path ≡ within directory left → left ≡ within name rest → place ≡ within directory name → path ≡ within place rest
+pub way_step : (path directory left name place rest : List ℕ) → path ≡ within directory left →
+    left ≡ within name rest → place ≡ within directory name → path ≡ within place rest
 way_step path directory left name place rest way cut is =
     way ∙ (ap (within directory) cut ∙ (sym (within_within directory name rest) ∙ ap (λ x. within x rest) (sym is)))

@@ -31,12 +31,17 @@ IsCollapsed config path = IsNamed config.collapse path
 pub data SpellsBelow (config : Config) : List ℕ → List ℕ → List (List ℕ) → Type 0 where
   file : (directory : List ℕ) {base name : List ℕ} → IsPiece base → IsCamelized config base name →
       SpellsBelow config directory (base ++ ruby_ending) (name ∷ [])
-  named : (directory here : List ℕ) {below name : List ℕ} {names : List (List ℕ)} → IsPiece here → ¬ IsCollapsed config (within directory here) → IsCamelized config here name →
-      SpellsBelow config (within directory here) below names → SpellsBelow config directory (within here below) (name ∷ names)
-  collapsed : (directory here : List ℕ) {below : List ℕ} {names : List (List ℕ)} → IsPiece here → IsCollapsed config (within directory here) →
+  named : (directory here : List ℕ) {below name : List ℕ} {names : List (List ℕ)} → IsPiece here →
+      ¬ IsCollapsed config (within directory here) → IsCamelized config here name →
+      SpellsBelow config (within directory here) below names →
+      SpellsBelow config directory (within here below) (name ∷ names)
+  collapsed : (directory here : List ℕ) {below : List ℕ} {names : List (List ℕ)} → IsPiece here →
+      IsCollapsed config (within directory here) →
       SpellsBelow config (within directory here) below names → SpellsBelow config directory (within here below) names
 
 -- the names gain that of a directory, unless it is collapsed
 abbrev pub AddsDirectory : Config → List ℕ → List ℕ → List (List ℕ) → List (List ℕ) → Type 0
 AddsDirectory config path here before after =
-    (IsCollapsed config path × (after ≡ before)) ⊎ ((¬ IsCollapsed config path) × ((name : List ℕ) × IsCamelized config here name × (after ≡ before ++ name ∷ [])))
+    (IsCollapsed config path × (after ≡ before))
+    ⊎ ((¬ IsCollapsed config path)
+    × ((name : List ℕ) × IsCamelized config here name × (after ≡ before ++ name ∷ [])))

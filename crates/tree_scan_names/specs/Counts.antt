@@ -1,4 +1,5 @@
--- Which files count (Zeitwerk README, "Ignoring parts of the project": names that begin with a dot and files without the
+-- Which files count (Zeitwerk README, "Ignoring parts of the project": names that begin with a dot and files without
+-- the
 -- ending `.rb` count for nothing by themselves).
 use Rattle.std.specs.Prelude.{◌≡◌, ◌⊎◌, ℕ, List, ◌∷◌}
 use Rattle.std.specs.List.{Any}

@@ -22,6 +22,8 @@ AreConstants names = IsTrue (list_all is_constant names)
 -- A file that counts spells its names where each is a constant name, and is at fault where one isn't. Any other file
 -- spells nothing, whatever the names of its directories.
 abbrev pub IsSpelling : Config → List ℕ → List ℕ → Spelling → Type 0
-IsSpelling config root below (Names names) = Counts config root below × SpellsBelow config root below names × AreConstants names
+IsSpelling config root below (Names names) = Counts config root below × SpellsBelow config root below names
+    × AreConstants names
 IsSpelling config root below Nothing = (¬ EndsInRb below) ⊎ IsPassedOver config root below
-IsSpelling config root below BadName = Counts config root below × ((names : List (List ℕ)) × SpellsBelow config root below names × (¬ AreConstants names))
+IsSpelling config root below BadName = Counts config root below
+    × ((names : List (List ℕ)) × SpellsBelow config root below names × (¬ AreConstants names))

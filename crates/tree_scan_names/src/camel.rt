@@ -7,7 +7,8 @@ use app_config::Config;
 use lists::{Copying, Text};
 use std::alloc::{AllocError, Global};
 
-/// The constant name of a base name: that of the last `inflect` line for the base, else its pieces between `_`, each with
+/// The constant name of a base name: that of the last `inflect` line for the base, else its pieces between `_`, each
+/// with
 /// its first byte in upper case and the rest in lower case, joined. `html_parser` is camelized to `HtmlParser`.
 pub fn camelize(alloc: Global, base: &[u8], config: &Config) -> Result<Text, AllocError>
     ensures camelized { IfOk result (λ name. IsCamelized config.now base.now name) }

@@ -27,7 +27,8 @@ fn begins_with_dot(name: &[u8]) -> bool
 /// Whether a file is hidden or ignored, by the path of its root and what of its own path is below that.
 pub(crate) fn is_passed_over(config: &Config, path: &[u8], root: &[u8], below: &[u8]) -> bool
     requires { path.now ≡ within root.now below.now }
-    ensures { MatchBool result (IsPassedOver config.now root.now below.now) (¬ IsPassedOver config.now root.now below.now) }
+    ensures { MatchBool result (IsPassedOver config.now root.now below.now)
+        (¬ IsPassedOver config.now root.now below.now) }
 {
     let mut directory = root;
     let mut left = below;

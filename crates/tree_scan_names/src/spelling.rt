@@ -32,8 +32,10 @@ pub fn names_below(
 ) -> Result<Spelling, AllocError>
     requires inside { root_length < length path.now }
     requires slash { slice_index path.now root_length ≡ 47 }
-    ensures spelled { IfOk result (λ spelling. IsSpelling config.now (above path.now root_length) (behind path.now root_length) spelling) }
-    ensures only { IfOk result (λ spelling. (other : Spelling) → IsSpelling config.now (above path.now root_length) (behind path.now root_length) other → other ≡ spelling) }
+    ensures spelled { IfOk result
+        (λ spelling. IsSpelling config.now (above path.now root_length) (behind path.now root_length) spelling) }
+    ensures only { IfOk result (λ spelling. (other : Spelling) →
+        IsSpelling config.now (above path.now root_length) (behind path.now root_length) other → other ≡ spelling) }
 {
     let (root, below) = around(path, root_length);
     if is_passed_over(config, path, root, below) {
@@ -47,7 +49,8 @@ pub fn names_below(
 
 /// A path spells one list of names at most.
 pub fn spells_one_list(config: &Config, root: &[u8], below: &[u8])
-    ensures { (names others : List (List ℕ)) → SpellsBelow config.now root.now below.now names → SpellsBelow config.now root.now below.now others → others ≡ names }
+    ensures { (names others : List (List ℕ)) → SpellsBelow config.now root.now below.now names →
+        SpellsBelow config.now root.now below.now others → others ≡ names }
 {}
 
 /// Whether each name is a constant name.
@@ -77,7 +80,8 @@ fn spelled_names(
     below: &[u8],
 ) -> Result<Option<TextList>, AllocError>
     requires { path.now ≡ within root.now below.now }
-    ensures { IfOk result (λ found. MatchOption found (¬ EndsInRb below.now) (λ names. SpellsBelow config.now root.now below.now names)) }
+    ensures { IfOk result (λ found. MatchOption found (¬ EndsInRb below.now)
+        (λ names. SpellsBelow config.now root.now below.now names)) }
 {
     let mut names = TextList::new(alloc);
     let mut directory = root;

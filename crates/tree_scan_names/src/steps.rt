@@ -27,7 +27,8 @@ pub(crate) fn step_below<'a>(path: &'a [u8], directory: &[u8], below: &'a [u8]) 
     requires { path.now ≡ within directory.now below.now }
     ensures piece { IsPiece result.name.now }
     ensures place { result.place.now ≡ within directory.now result.name.now }
-    ensures parts { MatchOption result.below (below.now ≡ result.name.now) (λ rest. below.now ≡ within result.name.now rest.now) }
+    ensures parts { MatchOption result.below (below.now ≡ result.name.now)
+        (λ rest. below.now ≡ within result.name.now rest.now) }
 {
     let (name, rest) = cut(below);
     let place = &path[..directory.len() + 1 + name.len()];

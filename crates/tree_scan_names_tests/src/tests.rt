@@ -5,7 +5,8 @@ use std::process::Abort;
 use std::test::Fail;
 use tree_scan_names::{Spelling, camelize, names_below, spells_one_list};
 
-/// A configuration, a root, a path below it, and what it spells: names with `::` between them, `-` for nothing, `!` for a
+/// A configuration, a root, a path below it, and what it spells: names with `::` between them, `-` for nothing, `!`
+/// for a
 /// bad name.
 type Case = (&'static [u8], &'static [u8], &'static [u8], &'static [u8]);
 

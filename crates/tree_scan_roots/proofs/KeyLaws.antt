@@ -1,5 +1,7 @@
 -- Paths as keys: what an insertion changes, and the numbers of paths.
-use Rattle.std.proofs.Common.{◌≡◌, ◌≢◌, ℕ, suc, zero, Bool, true, false, cond, List, [], ◌∷◌, ◌++◌, length, get_or, map, Contains, AllPairs, ◌⊎◌, inl, inr, ⊎_elim, ◌↔◌, Option, Some, None, refl, sym, ◌∙◌, ap, subst, arith}
+use Rattle.std.proofs.Common.{◌≡◌, ◌≢◌, ℕ, suc, zero, Bool, true, false, cond, List, [], ◌∷◌, ◌++◌, length, get_or, map}
+use Rattle.std.proofs.Common.{Contains, AllPairs, ◌⊎◌, inl, inr, ⊎_elim, ◌↔◌, Option, Some, None, refl, sym, ◌∙◌, ap}
+use Rattle.std.proofs.Common.{subst, arith}
 use Rattle.std.specs.Prelude.{bytes_eq, slice_get, is_some}
 use Rattle.std.specs.List.{list_any}
 use Rattle.std.specs.List.Sorted.{IsStrictlySortedBy}
@@ -30,16 +32,19 @@ apart bs cs ks n y =
     is_eq-slice_cmp cs ks ∙ nat_list_eq_equiv.symm cs ks ∙ sym (nat_list_eq_equiv.congr bs ks cs e) ∙ n
 
 module _ {K : Type 0} (eq : K → K → Bool) (test : K → Bool) where
-  other_entries : {X : Type 0} (old new : List (K × X)) → KeepsOthers eq test old new → (other : K → Bool) → IsKeyTest eq other → AreApart test other → lookup other new ≡ lookup other old
+  other_entries : {X : Type 0} (old new : List (K × X)) → KeepsOthers eq test old new → (other : K → Bool) →
+      IsKeyTest eq other → AreApart test other → lookup other new ≡ lookup other old
   unfolding KeepsOthers
   other_entries old new h = h
 
-  other_keys : (old new : List K) → KeepsOtherKeys eq test old new → (other : K → Bool) → IsKeyTest eq other → AreApart test other → list_any other new ≡ list_any other old
+  other_keys : (old new : List K) → KeepsOtherKeys eq test old new → (other : K → Bool) → IsKeyTest eq other →
+      AreApart test other → list_any other new ≡ list_any other old
   unfolding KeepsOtherKeys
   other_keys old new h = h
 
 -- g is w at bs, and f at other bytes
-by_bytes : {W : Type 0} (f g : List ℕ → W) (bs : List ℕ) (w : W) → g bs ≡ w → ((cs : List ℕ) → bytes_eq bs cs ≡ false → g cs ≡ f cs) → (cs : List ℕ) → g cs ≡ cond (bytes_eq bs cs) w (f cs)
+by_bytes : {W : Type 0} (f g : List ℕ → W) (bs : List ℕ) (w : W) → g bs ≡ w →
+    ((cs : List ℕ) → bytes_eq bs cs ≡ false → g cs ≡ f cs) → (cs : List ℕ) → g cs ≡ cond (bytes_eq bs cs) w (f cs)
 by_bytes f g bs w here other cs =
     ⊎_elim
     (λ y. subst (λ l. g l ≡ w) ((bytes_eq-Decides bs cs).0 y) here ∙ sym (cond-true (bytes_eq bs cs) w (f cs) y))
@@ -47,15 +52,25 @@ by_bytes f g bs w here other cs =
     (cases_Bool (bytes_eq bs cs))
 
 module _ (bs : List ℕ) where
-  pub number_update : (m n : tree.BTreeMap (Vec ℕ) ℕ) (w : Option ℕ) → tree.UpdatesBy key_order (λ k. order bs k.items) m n w → (cs : List ℕ) → number_of n cs ≡ cond (bytes_eq bs cs) w (number_of m cs)
-  number_update m n w h = by_bytes (number_of m) (number_of n) bs w h.1 (λ cs e. other_entries _ _ _ _ h.3 _ (λ x y. (eq_by_cmp_equiv nat_list_cmp_total).congr cs x.items y.items) (λ k. apart bs cs k.items e))
+  pub number_update : (m n : tree.BTreeMap (Vec ℕ) ℕ) (w : Option ℕ) →
+      tree.UpdatesBy key_order (λ k. order bs k.items) m n w → (cs : List ℕ) →
+      number_of n cs ≡ cond (bytes_eq bs cs) w (number_of m cs)
+  number_update m n w h = by_bytes (number_of m) (number_of n) bs w h.1
+      (λ cs e. other_entries _ _ _ _ h.3 _ (λ x y. (eq_by_cmp_equiv nat_list_cmp_total).congr cs x.items y.items)
+      (λ k. apart bs cs k.items e))
 
-  set_update : (s n : sorted.BTreeSet (Vec ℕ)) (b : Bool) → sorted.UpdatesBy key_order (λ k. order bs k.items) s n b → (cs : List ℕ)
-      → sorted.contains_by (λ k. order cs k.items) n ≡ cond (bytes_eq bs cs) b (sorted.contains_by (λ k. order cs k.items) s)
-  set_update s n b h = by_bytes (λ cs. sorted.contains_by (λ k. order cs k.items) s) (λ cs. sorted.contains_by (λ k. order cs k.items) n) bs b h.1 (λ cs e. other_keys _ _ _ _ h.3 _ (λ x y. (eq_by_cmp_equiv nat_list_cmp_total).congr cs x.items y.items) (λ k. apart bs cs k.items e))
+  set_update : (s n : sorted.BTreeSet (Vec ℕ)) (b : Bool) →
+      sorted.UpdatesBy key_order (λ k. order bs k.items) s n b → (cs : List ℕ)
+      → sorted.contains_by (λ k. order cs k.items) n
+      ≡ cond (bytes_eq bs cs) b (sorted.contains_by (λ k. order cs k.items) s)
+  set_update s n b h = by_bytes (λ cs. sorted.contains_by (λ k. order cs k.items) s)
+      (λ cs. sorted.contains_by (λ k. order cs k.items) n) bs b h.1
+      (λ cs e. other_keys _ _ _ _ h.3 _ (λ x y. (eq_by_cmp_equiv nat_list_cmp_total).congr cs x.items y.items)
+      (λ k. apart bs cs k.items e))
 
   -- a set with one path more
-  pub set_more : (s n : sorted.BTreeSet (Vec ℕ)) → sorted.UpdatesBy key_order (λ k. order bs k.items) s n true → (cs : List ℕ) → Has n cs ↔ (Has s cs ⊎ (bs ≡ cs))
+  pub set_more : (s n : sorted.BTreeSet (Vec ℕ)) → sorted.UpdatesBy key_order (λ k. order bs k.items) s n true →
+      (cs : List ℕ) → Has n cs ↔ (Has s cs ⊎ (bs ≡ cs))
   set_more s n h cs =
       let e = set_update s n true h cs in (
         (λ now. ⊎_elim
@@ -66,13 +81,15 @@ module _ (bs : List ℕ) where
             (λ y. e ∙ cond-true (bytes_eq bs cs) true _ y)
             (λ differ. elim cases [
               | inl was ↦ e ∙ cond-false (bytes_eq bs cs) true _ differ ∙ was
-              | inr is ↦ let y : bytes_eq bs cs ≡ true = (bytes_eq-Decides bs cs).1 is in absurd (let z : true ≡ false = sym y ∙ differ in cc)
+              | inr is ↦ let y : bytes_eq bs cs ≡ true = (bytes_eq-Decides bs cs).1 is in
+                  absurd (let z : true ≡ false = sym y ∙ differ in cc)
             ])
             (cases_Bool (bytes_eq bs cs))),
       )
 
 -- a path that the set has already
-pub set_same : (s : sorted.BTreeSet (Vec ℕ)) (bs : List ℕ) → Has s bs → (cs : List ℕ) → Has s cs ↔ (Has s cs ⊎ (bs ≡ cs))
+pub set_same : (s : sorted.BTreeSet (Vec ℕ)) (bs : List ℕ) → Has s bs → (cs : List ℕ) →
+    Has s cs ↔ (Has s cs ⊎ (bs ≡ cs))
 set_same s bs is cs = ((λ h. inl h), (λ h. elim h [ inl was ↦ was | inr e ↦ subst (Has s) e is ]))
 
 -- ---- keys in order
@@ -80,7 +97,8 @@ pub keys_rise : (keys : List (Vec ℕ)) → IsStrictlySortedBy key_order keys �
 keys_rise [] h = λ i j d lt within. absurd (omega arith)
 keys_rise (key ∷ keys) h =
     AllPairs-cons IsBefore key.items (map (λ k. k.items) keys)
-    (All-map (IsBefore key.items) (λ k. k.items) keys (All-from_recursion (λ y. key_order key y ≡ Less) keys (sorted_head key_order key keys h)))
+    (All-map (IsBefore key.items) (λ k. k.items) keys
+    (All-from_recursion (λ y. key_order key y ≡ Less) keys (sorted_head key_order key keys h)))
     (keys_rise keys (sorted_tail key_order key keys h))
 
 -- ---- places in a list with one item more
@@ -93,7 +111,8 @@ pub get_last : {X : Type 0} (xs : List X) (x : X) → slice_get (xs ++ x ∷ [])
 get_last [] x = refl
 get_last (y ∷ xs) x = get_last xs x
 
-pub get_cases : {X : Type 0} (xs : List X) (x y : X) (n : ℕ) → slice_get (xs ++ x ∷ []) n ≡ Some y → (slice_get xs n ≡ Some y) ⊎ ((n ≡ length xs) × (x ≡ y))
+pub get_cases : {X : Type 0} (xs : List X) (x y : X) (n : ℕ) → slice_get (xs ++ x ∷ []) n ≡ Some y →
+    (slice_get xs n ≡ Some y) ⊎ ((n ≡ length xs) × (x ≡ y))
 get_cases [] x y zero e = inr (refl, cc)
 get_cases [] x y (suc n) e = let z : None ≡ Some y = e in cc
 get_cases (z ∷ xs) x y zero e = inl e
@@ -135,19 +154,25 @@ module _ (paths : List (List ℕ)) (numbers : tree.BTreeMap (Vec ℕ) ℕ) (are 
 
   pub distinct : AllPairs (λ a b. a ≢ b) paths
   distinct i j d lt within e =
-      let first : number_of numbers (get_or paths i d) ≡ Some i = (are (get_or paths i d) i).1 (slice_get-get_or paths i d (omega arith)) in
-      let second : number_of numbers (get_or paths j d) ≡ Some j = (are (get_or paths j d) j).1 (slice_get-get_or paths j d within) in
+      let first : number_of numbers (get_or paths i d) ≡ Some i =
+      (are (get_or paths i d) i).1 (slice_get-get_or paths i d (omega arith)) in
+      let second : number_of numbers (get_or paths j d) ≡ Some j =
+      (are (get_or paths j d) j).1 (slice_get-get_or paths j d within) in
       let same : Some i ≡ Some j = sym first ∙ ap (number_of numbers) e ∙ second in
       let z : i ≡ j = cc in
       omega arith
 
-  module _ (path : List ℕ) (new : tree.BTreeMap (Vec ℕ) ℕ) (number : ℕ) (last : number ≡ length paths) (none : number_of numbers path ≡ None)
-      (updates : (other : List ℕ) → number_of new other ≡ cond (bytes_eq path other) (Some number) (number_of numbers other)) where
+  module _ (path : List ℕ) (new : tree.BTreeMap (Vec ℕ) ℕ) (number : ℕ) (last : number ≡ length paths)
+      (none : number_of numbers path ≡ None)
+      (updates : (other : List ℕ) →
+      number_of new other ≡ cond (bytes_eq path other) (Some number) (number_of numbers other)) where
     at_path : (other : List ℕ) → path ≡ other → number_of new other ≡ Some number
-    at_path other same = updates other ∙ cond-true (bytes_eq path other) (Some number) (number_of numbers other) ((bytes_eq-Decides path other).1 same)
+    at_path other same = updates other ∙ cond-true (bytes_eq path other) (Some number) (number_of numbers other)
+        ((bytes_eq-Decides path other).1 same)
 
     elsewhere : (other : List ℕ) → bytes_eq path other ≡ false → number_of new other ≡ number_of numbers other
-    elsewhere other differ = updates other ∙ cond-false (bytes_eq path other) (Some number) (number_of numbers other) differ
+    elsewhere other differ = updates other
+        ∙ cond-false (bytes_eq path other) (Some number) (number_of numbers other) differ
 
     there : (other : List ℕ) (n : ℕ) → number_of new other ≡ Some n → slice_get (paths ++ path ∷ []) n ≡ Some other
     there other n e =
@@ -164,7 +189,8 @@ module _ (paths : List (List ℕ)) (numbers : tree.BTreeMap (Vec ℕ) ℕ) (are 
       | inl h ↦
           let was : number_of numbers other ≡ Some n = (are other n).1 h in
           ⊎_elim
-          (λ y. let z : None ≡ Some n = sym none ∙ ap (number_of numbers) ((bytes_eq-Decides path other).0 y) ∙ was in cc)
+          (λ y. let z : None ≡ Some n = sym none ∙ ap (number_of numbers) ((bytes_eq-Decides path other).0 y)
+          ∙ was in cc)
           (λ differ. elsewhere other differ ∙ was)
           (cases_Bool (bytes_eq path other))
       | inr h ↦ at_path other h.1 ∙ ap (λ m. Some m) (last ∙ sym h.0)

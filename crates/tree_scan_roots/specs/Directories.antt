@@ -1,5 +1,6 @@
 -- The directories of an application that are roots by default. Rails autoloads from each directory directly under `app`
--- but `assets`, `javascript` and `views`, and from each `app/*/concerns` (Rails guide, "Autoloading and Reloading Constants").
+-- but `assets`, `javascript` and `views`, and from each `app/*/concerns` (Rails guide, "Autoloading and Reloading
+-- Constants").
 use Rattle.std.specs.Prelude.{◌≡◌, ◌≢◌, ◌⊎◌, ℕ, List, ◌∷◌, ◌++◌, codes, Any, Contains}
 
 -- The directory is above the path by whole segments: behind it the path goes on with a slash (47) and what is below.

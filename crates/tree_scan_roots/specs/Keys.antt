@@ -20,7 +20,8 @@ number_of numbers path = tree.get_by (λ key. order path key.items) numbers
 
 -- each of the paths has its place as its number, and no other path has a number
 abbrev pub IsNumbering : List (List ℕ) → tree.BTreeMap (Vec ℕ) ℕ → Type 0
-IsNumbering paths numbers = (path : List ℕ) (number : ℕ) → (number_of numbers path ≡ Some number) ↔ (slice_get paths number ≡ Some path)
+IsNumbering paths numbers = (path : List ℕ) (number : ℕ) →
+    (number_of numbers path ≡ Some number) ↔ (slice_get paths number ≡ Some path)
 
 -- the paths of a set, in order
 abbrev pub key_paths : set.BTreeSet (Vec ℕ) → List (List ℕ)

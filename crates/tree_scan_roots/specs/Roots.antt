@@ -1,5 +1,6 @@
 -- The roots of an application, in order, and the fault of root lines.
-use Rattle.std.specs.Prelude.{◌≡◌, ◌≢◌, ◌↔◌, ℕ, Bool, List, [], ◌∷◌, ◌++◌, map, filter, not, AllPairs, Contains, bytes_eq, if◌then◌else◌, ⊤}
+use Rattle.std.specs.Prelude.{◌≡◌, ◌≢◌, ◌↔◌, ℕ, Bool, List, [], ◌∷◌, ◌++◌, map, filter, not, AllPairs, Contains}
+use Rattle.std.specs.Prelude.{bytes_eq, if◌then◌else◌, ⊤}
 use Rattle.std.specs.List.{list_any}
 use Rattle.outside.specs.Order.{Rising}
 use Rattle.app_config.specs.declared.config.RootLine.{RootLine}

@@ -1,7 +1,8 @@
 ghost use Rattle.std.specs.Prelude.{◌≡◌, ◌≢◌, ◌↔◌, [], ◌∷◌, ◌++◌, List, ℕ, map, filter, Contains, IfOk, OnOk, IsTrue};
 ghost use Rattle.std.specs.BTreeSet.{IsOrdered};
 ghost use Rattle.tree_scan_roots.specs.Keys.{IsNumbering, key_order, key_paths};
-ghost use Rattle.tree_scan_roots.specs.Roots.{named, root_paths, namespace_of, default_root, line_root, names_none_of, NamesOnce};
+ghost use Rattle.tree_scan_roots.specs.Roots.{named, root_paths, namespace_of, default_root, line_root, names_none_of};
+ghost use Rattle.tree_scan_roots.specs.Roots.{NamesOnce};
 
 use crate::directories::Directories;
 use crate::numbers::{PathNumbers, give_number, number_of};
@@ -88,7 +89,9 @@ pub(crate) fn add_line_roots(
 ) -> Result<(), AllocError>
     requires numbered { IsNumbering (root_paths building.old.roots) building.old.numbers }
     requires once { NamesOnce lines.now }
-    ensures added { OnOk result (building.new.roots ≡ building.old.roots ++ map line_root (filter (names_none_of (root_paths building.old.roots)) lines.now)) }
+    ensures added { OnOk result
+        (building.new.roots ≡ building.old.roots ++ map line_root
+        (filter (names_none_of (root_paths building.old.roots)) lines.now)) }
     ensures numbered { OnOk result (IsNumbering (root_paths building.new.roots) building.new.numbers) }
 {
     'lines: for line in lines {

@@ -1,4 +1,5 @@
-ghost use Rattle.std.specs.Prelude.{◌≡◌, IfSome, IfNone, ◌≢◌, ◌⊎◌, ◌↔◌, ◌++◌, ◌∷◌, List, ℕ, codes, option_copied, IsTrue, IfOk, OnOk, MatchOption};
+ghost use Rattle.std.specs.Prelude.{◌≡◌, IfSome, IfNone, ◌≢◌, ◌⊎◌, ◌↔◌, ◌++◌, ◌∷◌, List, ℕ, codes, option_copied};
+ghost use Rattle.std.specs.Prelude.{IsTrue, IfOk, OnOk, MatchOption};
 ghost use Rattle.outside.specs.Tree.{paths_of};
 ghost use Rattle.tree_scan_roots.specs.Directories.{IsName, IsRootName, IsTopRoot, IsConcerns, IsDefaultRoot, IsAbove};
 ghost use Rattle.tree_scan_roots.specs.Keys.{Has};
@@ -12,22 +13,26 @@ pub(crate) type Directories = BTreeSet<Vec<u8>>;
 
 /// What stands before the first slash of a text, and what stands behind it.
 fn cut(text: &[u8]) -> Option<(&[u8], &[u8])>
-    ensures { MatchOption result (IsName text.now) (λ parts. IsName parts.0.now × (text.now ≡ parts.0.now ++ 47 ∷ parts.1.now)) }
+    ensures { MatchOption result (IsName text.now) (λ parts. IsName parts.0.now
+        × (text.now ≡ parts.0.now ++ 47 ∷ parts.1.now)) }
 {
     let place = text.iter().position(|byte| *byte == b'/')?;
     Some((&text[..place], &text[place + 1..]))
 }
 
 fn below_app(path: &[u8]) -> Option<&[u8]>
-    ensures { MatchOption result ((below : List ℕ) → path.now ≢ codes "app/" ++ below) (λ below. path.now ≡ codes "app/" ++ below.now) }
+    ensures { MatchOption result ((below : List ℕ) → path.now ≢ codes "app/" ++ below)
+        (λ below. path.now ≡ codes "app/" ++ below.now) }
 {
     path.strip_prefix(b"app/")
 }
 
 /// The name of the directory below `app` in which a file is, and the file's path below that directory.
 fn name_below_app(path: &[u8]) -> Option<(&[u8], &[u8])>
-    ensures none { IfNone result ((name below : List ℕ) → IsName name → path.now ≢ codes "app/" ++ (name ++ 47 ∷ below)) }
-    ensures found { IfSome result (λ parts. IsName parts.0.now × (path.now ≡ codes "app/" ++ (parts.0.now ++ 47 ∷ parts.1.now))) }
+    ensures none { IfNone result ((name below : List ℕ) → IsName name →
+        path.now ≢ codes "app/" ++ (name ++ 47 ∷ below)) }
+    ensures found { IfSome result (λ parts. IsName parts.0.now
+        × (path.now ≡ codes "app/" ++ (parts.0.now ++ 47 ∷ parts.1.now))) }
 {
     match below_app(path) {
         Some(below) => cut(below),
@@ -49,7 +54,8 @@ fn begins_in_concerns(below: &[u8]) -> bool
 
 /// The default root directly under `app` that is above a path.
 fn top_root(path: &[u8]) -> Option<&[u8]>
-    ensures { (directory : List ℕ) → (option_copied result ≡ Some directory) ↔ (IsTopRoot directory × IsAbove directory path.now) }
+    ensures { (directory : List ℕ) →
+        (option_copied result ≡ Some directory) ↔ (IsTopRoot directory × IsAbove directory path.now) }
 {
     let (name, _) = name_below_app(path)?;
     if is_root_name(name) {
@@ -61,7 +67,8 @@ fn top_root(path: &[u8]) -> Option<&[u8]>
 
 /// The directory `app/*/concerns` that is above a path.
 fn concerns(path: &[u8]) -> Option<&[u8]>
-    ensures { (directory : List ℕ) → (option_copied result ≡ Some directory) ↔ (IsConcerns directory × IsAbove directory path.now) }
+    ensures { (directory : List ℕ) →
+        (option_copied result ≡ Some directory) ↔ (IsConcerns directory × IsAbove directory path.now) }
 {
     let (name, below) = name_below_app(path)?;
     if begins_in_concerns(below) {
@@ -85,7 +92,8 @@ fn add_some(
     alloc: Global,
     directory: Option<&[u8]>,
 ) -> Result<(), AllocError>
-    ensures { OnOk result ((other : List ℕ) → Has found.new other ↔ (Has found.old other ⊎ (option_copied directory.entry ≡ Some other))) }
+    ensures { OnOk result ((other : List ℕ) →
+        Has found.new other ↔ (Has found.old other ⊎ (option_copied directory.entry ≡ Some other))) }
 {
     match directory {
         Some(directory) => add(found, alloc, directory),
@@ -95,7 +103,8 @@ fn add_some(
 
 /// The default roots of which a file is below.
 fn add_roots_above(found: &mut Directories, alloc: Global, path: &[u8]) -> Result<(), AllocError>
-    ensures { OnOk result ((other : List ℕ) → Has found.new other ↔ (Has found.old other ⊎ ((IsTopRoot other ⊎ IsConcerns other) × IsAbove other path.now))) }
+    ensures { OnOk result ((other : List ℕ) →
+        Has found.new other ↔ (Has found.old other ⊎ ((IsTopRoot other ⊎ IsConcerns other) × IsAbove other path.now))) }
 {
     add_some(found, alloc, top_root(path))?;
     add_some(found, alloc, concerns(path))?;
@@ -104,7 +113,8 @@ fn add_roots_above(found: &mut Directories, alloc: Global, path: &[u8]) -> Resul
 
 /// The default roots of these files.
 pub(crate) fn default_roots(alloc: Global, files: &[FileEntry]) -> Result<Directories, AllocError>
-    ensures exact { IfOk result (λ found. (directory : List ℕ) → Has found directory ↔ IsDefaultRoot (paths_of files.now) directory) }
+    ensures exact { IfOk result (λ found. (directory : List ℕ) →
+        Has found directory ↔ IsDefaultRoot (paths_of files.now) directory) }
 {
     let mut found = BTreeSet::new(alloc);
     'files: for file in files {

@@ -1,4 +1,5 @@
-ghost use Rattle.std.specs.Prelude.{◌≡◌, List, ℕ, ◌-◌, ◌<◌, ◌^◌, Some, None, IfOk, IfErr, OnOk, if◌then◌else◌, bytes_eq, length};
+ghost use Rattle.std.specs.Prelude.{◌≡◌, List, ℕ, ◌-◌, ◌<◌, ◌^◌, Some, None, IfOk, IfErr, OnOk, if◌then◌else◌};
+ghost use Rattle.std.specs.Prelude.{bytes_eq, length};
 ghost use Rattle.tree_scan_roots.specs.Keys.{IsNumbering, number_of};
 ghost use Rattle.tree_scan_roots.specs.Roots.{named, IsFault};
 
@@ -23,7 +24,8 @@ pub(crate) fn give_number(
     path: &[u8],
     number: u32,
 ) -> Result<(), AllocError>
-    ensures { OnOk result ((other : List ℕ) → number_of numbers.new other ≡ (if bytes_eq path.now other then Some number else number_of numbers.old other)) }
+    ensures { OnOk result ((other : List ℕ) →
+        number_of numbers.new other ≡ (if bytes_eq path.now other then Some number else number_of numbers.old other)) }
 {
     numbers.insert(Vec::from_slice(alloc, path)?, number)?;
     Ok(())

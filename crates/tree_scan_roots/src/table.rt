@@ -1,4 +1,5 @@
-ghost use Rattle.std.specs.Prelude.{◌≡◌, ◌≢◌, AllPairs, List, ℕ, Some, None, IfOk, IfErr, IsErrAnd, OnOk, IfSome, IfNone, ◌<◌, MatchOption, length, take, ◌≤◌};
+ghost use Rattle.std.specs.Prelude.{◌≡◌, ◌≢◌, AllPairs, List, ℕ, Some, None, IfOk, IfErr, IsErrAnd, OnOk, IfSome};
+ghost use Rattle.std.specs.Prelude.{IfNone, ◌<◌, MatchOption, length, take, ◌≤◌};
 ghost use Rattle.outside.specs.Tree.{paths_of};
 ghost use Rattle.tree_scan_roots.specs.Keys.{number_of};
 ghost use Rattle.tree_scan_roots.specs.Roots.{AreRoots, NamesOnce, IsTwoRoots, IsFault, IsFaultAt, root_paths};
@@ -38,8 +39,10 @@ impl Model for RootTable {
 /// The number of the path up to a place, where a slash stands there.
 fn number_up_to(numbers: &PathNumbers, path: &[u8], end: usize) -> Option<u32>
     requires { end < length path.now }
-    ensures none { IfNone result ((directory : List ℕ) → IsAbove directory path.now → length directory ≡ end → number_of numbers.now directory ≡ None) }
-    ensures found { IfSome result (λ number. IsAbove (take end path.now) path.now × (number_of numbers.now (take end path.now) ≡ Some number)) }
+    ensures none { IfNone result ((directory : List ℕ) → IsAbove directory path.now → length directory ≡ end →
+        number_of numbers.now directory ≡ None) }
+    ensures found { IfSome result (λ number. IsAbove (take end path.now) path.now
+        × (number_of numbers.now (take end path.now) ≡ Some number)) }
 {
     if path[end] == b'/' {
         number_of(numbers, &path[..end])

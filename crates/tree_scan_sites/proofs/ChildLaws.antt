@@ -1,15 +1,18 @@
 -- The names of children: the last names of the paths that go on behind a front by one name.
-use Rattle.std.proofs.Common.{◌≡◌, nat_lt, ℕ, zero, suc, ◌<◌, ◌≤◌, ◌+◌, true, false, cond, List, [], ◌∷◌, ◌++◌, length, get_or, refl, sym, ap, ◌∙◌, subst, inl, inr, arith}
+use Rattle.std.proofs.Common.{◌≡◌, nat_lt, ℕ, zero, suc, ◌<◌, ◌≤◌, ◌+◌, true, false, cond, List, [], ◌∷◌, ◌++◌, length}
+use Rattle.std.proofs.Common.{get_or, refl, sym, ap, ◌∙◌, subst, inl, inr, arith}
 use Rattle.std.proofs.lemmas.Bool.{false≢true, ltb-true, ltb-false}
 use Rattle.outside.specs.Order.{IsBefore}
 use Rattle.tree_scan_sites.specs.Paths.{name_eq, IsBeforePath}
 use Rattle.tree_scan_sites.specs.Rows.{last_behind, children_run}
-use Rattle.tree_scan_sites.proofs.OrderLaws.{begins, name_eq-true, name_eq-refl, begins-append, between, behind_front, not_before_itself}
+use Rattle.tree_scan_sites.proofs.OrderLaws.{begins, name_eq-true, name_eq-refl, begins-append, between, behind_front}
+use Rattle.tree_scan_sites.proofs.OrderLaws.{not_before_itself}
 use Rattle.tree_scan_sites.proofs.MemberLaws.{In, in_front, in_behind, in_append, Each, of_each, Rises, rises_append}
 use Rattle.tree_scan_sites.proofs.ReachLaws.{parent, Climbs}
 
 -- ---- the names behind a front
-pub last_here : (n : ℕ) (p : List (List ℕ)) (last : List ℕ) → n + 1 ≡ length p → last ≡ get_or p n last → last_behind n p ≡ last ∷ []
+pub last_here : (n : ℕ) (p : List (List ℕ)) (last : List ℕ) → n + 1 ≡ length p → last ≡ get_or p n last →
+    last_behind n p ≡ last ∷ []
 last_here n [] last e is = absurd (omega (arith, e))
 last_here zero (m ∷ []) last e is = ap (λ k. k ∷ []) (sym is)
 last_here zero (m ∷ k ∷ p) last e is = absurd (omega (arith, e))
@@ -41,25 +44,32 @@ abbrev pub begun : (front : List (List ℕ)) → List (List (List ℕ)) → List
 begun front [] = []
 begun front (path ∷ paths) = cond (begins front path) (last_behind (length front) path ++ begun front paths) []
 
-pub child_in : (c : List (List ℕ)) (n : List ℕ) (paths : List (List (List ℕ))) → In n (begun c paths) → In (c ++ n ∷ []) paths
+pub child_in : (c : List (List ℕ)) (n : List ℕ) (paths : List (List (List ℕ))) → In n (begun c paths) →
+    In (c ++ n ∷ []) paths
 child_in c n [] h = absurd h
 child_in c n (p ∷ paths) h =
-    elim (begins c p) as (λ v. begins c p ≡ v → In n (cond v (last_behind (length c) p ++ begun c paths) []) → In (c ++ n ∷ []) (p ∷ paths)) [
-      | true ↦ λ e k. elim (in_append n (last_behind (length c) p) (begun c paths) k) [ inl a ↦ inl (last_child c p n e a) | inr b ↦ inr (child_in c n paths b) ]
+    elim (begins c p) as (λ v. begins c p ≡ v → In n (cond v (last_behind (length c) p ++ begun c paths) []) →
+    In (c ++ n ∷ []) (p ∷ paths)) [
+      | true ↦ λ e k. elim (in_append n (last_behind (length c) p) (begun c paths) k)
+          [ inl a ↦ inl (last_child c p n e a) | inr b ↦ inr (child_in c n paths b) ]
       | false ↦ λ e k. absurd k
     ] refl h
 
-pub in_child : (c : List (List ℕ)) (n : List ℕ) (paths : List (List (List ℕ))) → Each (IsBeforePath c) paths → Rises IsBeforePath paths → In (c ++ n ∷ []) paths → In n (begun c paths)
+pub in_child : (c : List (List ℕ)) (n : List ℕ) (paths : List (List (List ℕ))) → Each (IsBeforePath c) paths →
+    Rises IsBeforePath paths → In (c ++ n ∷ []) paths → In n (begun c paths)
 in_child c n [] after rise h = absurd h
 in_child c n (p ∷ paths) after rise h =
     elim (begins c p) as (λ v. begins c p ≡ v → In n (cond v (last_behind (length c) p ++ begun c paths) [])) [
       | true ↦ λ e. elim h [
-        | inl same ↦ in_front n (last_behind (length c) p) (begun c paths) (subst (λ (q : List (List ℕ)). In n (last_behind (length c) q)) (sym same) (child_here c n))
+        | inl same ↦ in_front n (last_behind (length c) p) (begun c paths)
+            (subst (λ (q : List (List ℕ)). In n (last_behind (length c) q)) (sym same) (child_here c n))
         | inr k ↦ in_behind n (last_behind (length c) p) (begun c paths) (in_child c n paths after.1 rise.1 k)
       ]
       | false ↦ λ e. absurd (elim h [
         | inl same ↦ false≢true (sym e ∙ (ap (begins c) same ∙ begins-append c (n ∷ [])))
-        | inr k ↦ false≢true (sym e ∙ between c p (c ++ n ∷ []) after.0 (of_each (IsBeforePath p) paths (c ++ n ∷ []) rise.0 k) (begins-append c (n ∷ [])))
+        | inr k ↦ false≢true (sym e
+            ∙ between c p (c ++ n ∷ []) after.0 (of_each (IsBeforePath p) paths (c ++ n ∷ []) rise.0 k)
+            (begins-append c (n ∷ [])))
       ])
     ] refl
 
@@ -69,12 +79,17 @@ last_rises zero (m ∷ []) = (tt, tt)
 last_rises zero (m ∷ k ∷ p) = tt
 last_rises (suc n) (m ∷ p) = last_rises n p
 
-pub begun_rise : (c : List (List ℕ)) (paths : List (List (List ℕ))) → Rises IsBeforePath paths → Rises IsBefore (begun c paths)
+pub begun_rise : (c : List (List ℕ)) (paths : List (List (List ℕ))) → Rises IsBeforePath paths →
+    Rises IsBefore (begun c paths)
 begun_rise c [] rise = tt
 begun_rise c (p ∷ paths) rise =
-    elim (begins c p) as (λ v. begins c p ≡ v → Rises IsBefore (cond v (last_behind (length c) p ++ begun c paths) [])) [
-      | true ↦ λ e. rises_append IsBefore (last_behind (length c) p) (begun c paths) (last_rises (length c) p) (begun_rise c paths rise.1)
-          (λ m n a b. behind_front c m n (subst (λ (q : List (List ℕ)). IsBeforePath q (c ++ n ∷ [])) (last_child c p m e a) (of_each (IsBeforePath p) paths (c ++ n ∷ []) rise.0 (child_in c n paths b))))
+    elim (begins c p) as (λ v. begins c p ≡ v →
+    Rises IsBefore (cond v (last_behind (length c) p ++ begun c paths) [])) [
+      | true ↦ λ e. rises_append IsBefore (last_behind (length c) p) (begun c paths) (last_rises (length c) p)
+          (begun_rise c paths rise.1)
+          (λ m n a b. behind_front c m n
+          (subst (λ (q : List (List ℕ)). IsBeforePath q (c ++ n ∷ [])) (last_child c p m e a)
+          (of_each (IsBeforePath p) paths (c ++ n ∷ []) rise.0 (child_in c n paths b))))
       | false ↦ λ e. tt
     ] refl
 
@@ -92,20 +107,24 @@ same_length [] (y ∷ path) h le = absurd (omega (arith, le))
 same_length (x ∷ front) [] h le = absurd (false≢true h)
 same_length (x ∷ front) (y ∷ path) h le =
     elim (name_eq x y) as (λ v. name_eq x y ≡ v → cond v (begins front path) false ≡ true → x ∷ front ≡ y ∷ path) [
-      | true ↦ λ e k. let same : x ≡ y = name_eq-true x y e in let rest : front ≡ path = same_length front path k (omega (arith, le)) in cc
+      | true ↦ λ e k. let same : x ≡ y = name_eq-true x y e in let rest : front ≡ path =
+          same_length front path k (omega (arith, le)) in cc
       | false ↦ λ e k. absurd (false≢true k)
     ] refl h
 
 -- of two beginnings of a path, the shorter is one of the longer; here the longer is a parent
-begins_child : (front q previous : List (List ℕ)) → begins front previous ≡ true → begins (parent q) previous ≡ true → length front < length q → begins front q ≡ true
+begins_child : (front q previous : List (List ℕ)) → begins front previous ≡ true →
+    begins (parent q) previous ≡ true → length front < length q → begins front q ≡ true
 begins_child [] q previous h k lt = refl
 begins_child (x ∷ front) [] previous h k lt = absurd (omega (arith, lt))
 begins_child (x ∷ front) (y ∷ []) previous h k lt = absurd (omega (arith, lt))
 begins_child (x ∷ front) (y ∷ n ∷ q) [] h k lt = absurd (false≢true h)
 begins_child (x ∷ front) (y ∷ n ∷ q) (z ∷ previous) h k lt =
-    elim (name_eq x z) as (λ v. name_eq x z ≡ v → cond v (begins front previous) false ≡ true → cond (name_eq x y) (begins front (n ∷ q)) false ≡ true) [
+    elim (name_eq x z) as (λ v. name_eq x z ≡ v → cond v (begins front previous) false ≡ true →
+    cond (name_eq x y) (begins front (n ∷ q)) false ≡ true) [
       | true ↦ λ e a.
-          elim (name_eq y z) as (λ w. name_eq y z ≡ w → cond w (begins (parent (n ∷ q)) previous) false ≡ true → cond (name_eq x y) (begins front (n ∷ q)) false ≡ true) [
+          elim (name_eq y z) as (λ w. name_eq y z ≡ w → cond w (begins (parent (n ∷ q)) previous) false ≡ true →
+          cond (name_eq x y) (begins front (n ∷ q)) false ≡ true) [
             | true ↦ λ d b.
                 let same : x ≡ y = name_eq-true x z e ∙ sym (name_eq-true y z d) in
                 rw (same, name_eq-refl y) (begins_child front (n ∷ q) previous a b (omega (arith, lt)))
@@ -114,16 +133,22 @@ begins_child (x ∷ front) (y ∷ n ∷ q) (z ∷ previous) h k lt =
       | false ↦ λ e a. absurd (false≢true a)
     ] refl h
 
-pub begun_by_length : (c previous : List (List ℕ)) (paths : List (List (List ℕ))) → begins c previous ≡ true → Climbs previous paths → Each (IsBeforePath c) paths → children_run (length c) paths ≡ begun c paths
+pub begun_by_length : (c previous : List (List ℕ)) (paths : List (List (List ℕ))) → begins c previous ≡ true →
+    Climbs previous paths → Each (IsBeforePath c) paths → children_run (length c) paths ≡ begun c paths
 begun_by_length c previous [] h climbs after = refl
 begun_by_length c previous (q ∷ paths) h climbs after =
-    elim (nat_lt (length c) (length q)) as (λ v. nat_lt (length c) (length q) ≡ v → cond v (last_behind (length c) q ++ children_run (length c) paths) [] ≡ cond (begins c q) (last_behind (length c) q ++ begun c paths) []) [
+    elim (nat_lt (length c) (length q)) as (λ v. nat_lt (length c) (length q) ≡ v →
+    cond v (last_behind (length c) q ++ children_run (length c) paths) []
+    ≡ cond (begins c q) (last_behind (length c) q ++ begun c paths) []) [
       | true ↦ λ e.
-          let begins_here : begins c q ≡ true = begins_child c q previous h climbs.0 (ltb-true (length c) (length q) e) in
-          rw begins_here (ap (λ names. last_behind (length c) q ++ names) (begun_by_length c q paths begins_here climbs.1 after.1))
+          let begins_here : begins c q ≡ true = begins_child c q previous h climbs.0
+          (ltb-true (length c) (length q) e) in
+          rw begins_here (ap (λ names. last_behind (length c) q ++ names)
+          (begun_by_length c q paths begins_here climbs.1 after.1))
       | false ↦ λ e.
           elim (begins c q) as (λ w. begins c q ≡ w → [] ≡ cond w (last_behind (length c) q ++ begun c paths) []) [
-            | true ↦ λ d. absurd (not_before_itself c (subst (IsBeforePath c) (sym (same_length c q d (ltb-false (length c) (length q) e))) after.0))
+            | true ↦ λ d. absurd (not_before_itself c
+                (subst (IsBeforePath c) (sym (same_length c q d (ltb-false (length c) (length q) e))) after.0))
             | false ↦ λ d. refl
           ] refl
     ] refl

@@ -1,5 +1,6 @@
 -- Members of lists and lists that rise, by recursion on the list; and std's words for them.
-use Rattle.std.proofs.Common.{◌≡◌, ℕ, zero, suc, ◌<◌, List, [], ◌∷◌, ◌++◌, length, map, drop, get_or, Contains, All, AllPairs, refl, ap, subst, inl, inr, ◌⊎◌, arith}
+use Rattle.std.proofs.Common.{◌≡◌, ℕ, zero, suc, ◌<◌, List, [], ◌∷◌, ◌++◌, length, map, drop, get_or, Contains, All}
+use Rattle.std.proofs.Common.{AllPairs, refl, ap, subst, inl, inr, ◌⊎◌, arith}
 use Rattle.std.proofs.lemmas.List.Elements.{All-cons, All-nil}
 use Rattle.std.proofs.lemmas.List.Kept.{AllPairs-cons}
 
@@ -13,7 +14,8 @@ contains_later x y ys h = (suc h.0, omega (arith, h.1), h.2)
 
 pub Contains-from_in : {X : Type 0} (x : X) (xs : List X) → In x xs → Contains xs x
 Contains-from_in x [] h = absurd h
-Contains-from_in x (y ∷ ys) h = elim h [ inl e ↦ (zero, omega arith, e) | inr k ↦ contains_later x y ys (Contains-from_in x ys k) ]
+Contains-from_in x (y ∷ ys) h =
+    elim h [ inl e ↦ (zero, omega arith, e) | inr k ↦ contains_later x y ys (Contains-from_in x ys k) ]
 
 in_at : {X : Type 0} (x : X) (xs : List X) (k : ℕ) → k < length xs → get_or xs k x ≡ x → In x xs
 in_at x [] k lt e = absurd (omega (arith, lt))
@@ -33,7 +35,8 @@ in_behind x (z ∷ xs) ys h = inr (in_behind x xs ys h)
 
 pub in_append : {X : Type 0} (x : X) (xs ys : List X) → In x (xs ++ ys) → In x xs ⊎ In x ys
 in_append x [] ys h = inr h
-in_append x (z ∷ xs) ys h = elim h [ inl e ↦ inl (inl e) | inr k ↦ elim (in_append x xs ys k) [ inl a ↦ inl (inr a) | inr b ↦ inr b ] ]
+in_append x (z ∷ xs) ys h =
+    elim h [ inl e ↦ inl (inl e) | inr k ↦ elim (in_append x xs ys k) [ inl a ↦ inl (inr a) | inr b ↦ inr b ] ]
 
 pub in_mapped : {X Y : Type 0} (f : X → Y) (x : X) (xs : List X) → In x xs → In (f x) (map f xs)
 in_mapped f x [] h = absurd h
@@ -41,7 +44,11 @@ in_mapped f x (y ∷ ys) h = elim h [ inl e ↦ inl (ap f e) | inr k ↦ inr (in
 
 pub mapped_in : {X Y : Type 0} (f : X → Y) (y : Y) (xs : List X) → In y (map f xs) → (x : X) × (f x ≡ y) × In x xs
 mapped_in f y [] h = absurd h
-mapped_in f y (x ∷ xs) h = elim h [ inl e ↦ (x, e, inl refl) | inr k ↦ let r = mapped_in f y xs k in (r.0, r.1, inr r.2) ]
+mapped_in f y (x ∷ xs) h = elim h [
+  | inl e ↦ (x, e, inl refl)
+  | inr k ↦ let r = mapped_in f y xs k in
+      (r.0, r.1, inr r.2)
+]
 
 -- ---- what holds of each member
 abbrev pub Each : {X : Type 0} → (X → Type 0) → List X → Type 0
@@ -69,10 +76,12 @@ pub AllPairs-from_rises : {X : Type 0} (R : X → X → Type 0) (xs : List X) �
 AllPairs-from_rises R [] h = λ i j d a b. absurd (omega (arith, a, b))
 AllPairs-from_rises R (x ∷ xs) h = AllPairs-cons R x xs (All-from_each (R x) xs h.0) (AllPairs-from_rises R xs h.1)
 
-pub rises_append : {X : Type 0} (R : X → X → Type 0) (xs ys : List X) → Rises R xs → Rises R ys → ((x y : X) → In x xs → In y ys → R x y) → Rises R (xs ++ ys)
+pub rises_append : {X : Type 0} (R : X → X → Type 0) (xs ys : List X) → Rises R xs → Rises R ys →
+    ((x y : X) → In x xs → In y ys → R x y) → Rises R (xs ++ ys)
 rises_append R [] ys front back across = back
 rises_append R (x ∷ xs) ys front back across = (
-  each_of (R x) (xs ++ ys) (λ z k. elim (in_append z xs ys k) [ inl a ↦ of_each (R x) xs z front.0 a | inr b ↦ across x z (inl refl) b ]),
+  each_of (R x) (xs ++ ys)
+      (λ z k. elim (in_append z xs ys k) [ inl a ↦ of_each (R x) xs z front.0 a | inr b ↦ across x z (inl refl) b ]),
   rises_append R xs ys front.1 back (λ y z a b. across y z (inr a) b),
 )
 
@@ -80,7 +89,8 @@ pub each_weaker : {X : Type 0} (P Q : X → Type 0) → ((x : X) → P x → Q x
 each_weaker P Q f [] h = tt
 each_weaker P Q f (x ∷ xs) h = (f x h.0, each_weaker P Q f xs h.1)
 
-pub rises_weaker : {X : Type 0} (R S : X → X → Type 0) → ((x y : X) → R x y → S x y) → (xs : List X) → Rises R xs → Rises S xs
+pub rises_weaker : {X : Type 0} (R S : X → X → Type 0) → ((x y : X) → R x y → S x y) → (xs : List X) → Rises R xs →
+    Rises S xs
 rises_weaker R S f [] h = tt
 rises_weaker R S f (x ∷ xs) h = (each_weaker (R x) (S x) (f x) xs h.0, rises_weaker R S f xs h.1)
 

@@ -1,5 +1,6 @@
 -- The order of constant paths, and paths that begin with others.
-use Rattle.std.proofs.Common.{◌≡◌, ℕ, Bool, true, false, cond, List, [], ◌∷◌, ◌++◌, refl, sym, ap, ◌∙◌, subst, inl, inr, ◌⊎◌}
+use Rattle.std.proofs.Common.{◌≡◌, ℕ, Bool, true, false, cond, List, [], ◌∷◌, ◌++◌, refl, sym, ap, ◌∙◌, subst, inl, inr}
+use Rattle.std.proofs.Common.{◌⊎◌}
 use Rattle.std.specs.Cmp.{IsTotalOrder}
 use Rattle.std.specs.Cmp.Lexicographic.{bytes_decides}
 use Rattle.std.specs.Ordering.{ordering_then, ordering_reverse, is_gt}
@@ -49,7 +50,8 @@ pub not_both : (a b : List (List ℕ)) → path_order a b ≡ Less → path_orde
 not_both a b h k = not_before_itself a (path_order_total.trans a b a h k)
 
 -- up to, then before
-pub upto_before : (a b c : List (List ℕ)) → is_gt (path_order a b) ≡ false → path_order b c ≡ Less → path_order a c ≡ Less
+pub upto_before : (a b c : List (List ℕ)) → is_gt (path_order a b) ≡ false → path_order b c ≡ Less →
+    path_order a c ≡ Less
 upto_before a b c h k =
     elim (path_order a b) as (λ o. path_order a b ≡ o → is_gt o ≡ false → path_order a c ≡ Less) [
       | Less ↦ λ e g. path_order_total.trans a b c e k
@@ -58,8 +60,12 @@ upto_before a b c h k =
     ] refl h
 
 -- before, or the same, then before
-pub at_most_before : (a b c : List (List ℕ)) → (a ≡ b) ⊎ (path_order a b ≡ Less) → path_order b c ≡ Less → path_order a c ≡ Less
-at_most_before a b c h k = elim h [ inl e ↦ subst (λ (p : List (List ℕ)). path_order p c ≡ Less) (sym e) k | inr e ↦ path_order_total.trans a b c e k ]
+pub at_most_before : (a b c : List (List ℕ)) → (a ≡ b) ⊎ (path_order a b ≡ Less) → path_order b c ≡ Less →
+    path_order a c ≡ Less
+at_most_before a b c h k = elim h [
+  | inl e ↦ subst (λ (p : List (List ℕ)). path_order p c ≡ Less) (sym e) k
+  | inr e ↦ path_order_total.trans a b c e k
+]
 
 -- ---- equal names
 pub name_eq-true : (a b : List ℕ) → name_eq a b ≡ true → a ≡ b
@@ -79,21 +85,26 @@ pub begins-append : (front names : List (List ℕ)) → begins front (front ++ n
 begins-append [] names = refl
 begins-append (x ∷ front) names = rw (name_eq-refl x) (begins-append front names)
 
-pub begins-true : (front path : List (List ℕ)) → begins front path ≡ true → (names : List (List ℕ)) × (path ≡ front ++ names)
+pub begins-true : (front path : List (List ℕ)) → begins front path ≡ true → (names : List (List ℕ))
+    × (path ≡ front ++ names)
 begins-true [] path h = (path, refl)
 begins-true (x ∷ front) [] h = absurd (false≢true h)
 begins-true (x ∷ front) (y ∷ path) h =
-    elim (name_eq x y) as (λ v. name_eq x y ≡ v → cond v (begins front path) false ≡ true → (names : List (List ℕ)) × (y ∷ path ≡ (x ∷ front) ++ names)) [
-      | true ↦ λ e k. let r = begins-true front path k in let same : x ≡ y = name_eq-true x y e in (r.0, (let rest : path ≡ front ++ r.0 = r.1 in cc))
+    elim (name_eq x y) as (λ v. name_eq x y ≡ v → cond v (begins front path) false ≡ true → (names : List (List ℕ))
+    × (y ∷ path ≡ (x ∷ front) ++ names)) [
+      | true ↦ λ e k. let r = begins-true front path k in let same : x ≡ y = name_eq-true x y e in
+          (r.0, (let rest : path ≡ front ++ r.0 = r.1 in cc))
       | false ↦ λ e k. absurd (false≢true k)
     ] refl h
 
 -- a path is before each that goes on behind it
-pub front_before : (front : List (List ℕ)) (name : List ℕ) (names : List (List ℕ)) → path_order front (front ++ name ∷ names) ≡ Less
+pub front_before : (front : List (List ℕ)) (name : List ℕ) (names : List (List ℕ)) →
+    path_order front (front ++ name ∷ names) ≡ Less
 front_before [] name names = refl
 front_before (x ∷ front) name names = rw (name_itself x) (front_before front name names)
 
-pub front_at_most : (front names : List (List ℕ)) → (front ≡ front ++ names) ⊎ (path_order front (front ++ names) ≡ Less)
+pub front_at_most : (front names : List (List ℕ)) → (front ≡ front ++ names)
+    ⊎ (path_order front (front ++ names) ≡ Less)
 front_at_most front [] = inl (sym (append_nil front))
   where
     append_nil : (xs : List (List ℕ)) → xs ++ [] ≡ xs
@@ -102,22 +113,31 @@ front_at_most front [] = inl (sym (append_nil front))
 front_at_most front (name ∷ names) = inr (front_before front name names)
 
 -- of two names inside one constant, the constants are in the order of the names
-pub behind_front : (front : List (List ℕ)) (m n : List ℕ) → path_order (front ++ m ∷ []) (front ++ n ∷ []) ≡ Less → order m n ≡ Less
+pub behind_front : (front : List (List ℕ)) (m n : List ℕ) → path_order (front ++ m ∷ []) (front ++ n ∷ []) ≡ Less →
+    order m n ≡ Less
 behind_front [] m n h =
-    elim (order m n) as (λ o. ordering_then o Equal ≡ Less → o ≡ Less) [ Less ↦ λ k. refl | Equal ↦ λ k. cc | Greater ↦ λ k. cc ] h
+    elim (order m n) as (λ o. ordering_then o Equal ≡ Less → o ≡ Less) [
+      | Less ↦ λ k. refl
+      | Equal ↦ λ k. cc
+      | Greater ↦ λ k. cc
+    ] h
 behind_front (x ∷ front) m n h = behind_front front m n (rw (name_itself x) at h)
 
 -- what stands between a front and a path that begins with it begins with it too
-pub between : (front a b : List (List ℕ)) → path_order front a ≡ Less → path_order a b ≡ Less → begins front b ≡ true → begins front a ≡ true
+pub between : (front a b : List (List ℕ)) → path_order front a ≡ Less → path_order a b ≡ Less →
+    begins front b ≡ true → begins front a ≡ true
 between [] a b h k e = refl
 between (x ∷ front) [] b h k e = cc
 between (x ∷ front) (y ∷ a) [] h k e = absurd (false≢true e)
 between (x ∷ front) (y ∷ a) (z ∷ b) h k e =
-    elim (name_eq x z) as (λ v. name_eq x z ≡ v → cond v (begins front b) false ≡ true → cond (name_eq x y) (begins front a) false ≡ true) [
+    elim (name_eq x z) as (λ v. name_eq x z ≡ v → cond v (begins front b) false ≡ true →
+    cond (name_eq x y) (begins front a) false ≡ true) [
       | true ↦ λ s t.
           let same : x ≡ z = name_eq-true x z s in
-          let before : ordering_then (order y x) (path_order a b) ≡ Less = subst (λ (n : List ℕ). ordering_then (order y n) (path_order a b) ≡ Less) (sym same) k in
-          elim (order x y) as (λ o. order x y ≡ o → ordering_then o (path_order front a) ≡ Less → cond (name_eq x y) (begins front a) false ≡ true) [
+          let before : ordering_then (order y x) (path_order a b) ≡ Less =
+          subst (λ (n : List ℕ). ordering_then (order y n) (path_order a b) ≡ Less) (sym same) k in
+          elim (order x y) as (λ o. order x y ≡ o → ordering_then o (path_order front a) ≡ Less →
+          cond (name_eq x y) (begins front a) false ≡ true) [
             | Less ↦ λ o g.
                 let back : order y x ≡ Greater = nat_list_cmp_total.antisymm y x ∙ ap ordering_reverse o in
                 let wrong : Greater ≡ Less = (rw back at before) in cc

@@ -10,10 +10,12 @@ use Rattle.tree_scan_sites.specs.Listed.{Lists}
 use Rattle.tree_scan_sites.proofs.FileLaws.{one_file}
 
 -- ---- a constant has one file and one site at most
-pub one_file_of : (P : List (List ℕ) → ℕ → ℕ → Type 0) (c : List (List ℕ)) (f g : ℕ) → IsFileOf P c f → IsFileOf P c g → f ≡ g
+pub one_file_of : (P : List (List ℕ) → ℕ → ℕ → Type 0) (c : List (List ℕ)) (f g : ℕ) → IsFileOf P c f →
+    IsFileOf P c g → f ≡ g
 one_file_of P c f g h k = one_file P c f g h k
 
-one_named : (P : List (List ℕ) → ℕ → ℕ → Type 0) (c : List (List ℕ)) (s t : Site) → IsNamedSite P c s → IsNamedSite P c t → s ≡ t
+one_named : (P : List (List ℕ) → ℕ → ℕ → Type 0) (c : List (List ℕ)) (s t : Site) → IsNamedSite P c s →
+    IsNamedSite P c t → s ≡ t
 one_named P c (File f) (File g) h k = ap File (one_file P c f g h.0 k.0)
 one_named P c (File f) (Explicit g) h k = absurd (h.1 k.1)
 one_named P c (File f) Namespace h k = absurd (k.1 f h.0)
@@ -24,7 +26,8 @@ one_named P c Namespace (File g) h k = absurd (h.1 g k.0)
 one_named P c Namespace (Explicit g) h k = absurd (h.1 g k.0)
 one_named P c Namespace Namespace h k = refl
 
-pub one_site : (P : List (List ℕ) → ℕ → ℕ → Type 0) (c : List (List ℕ)) (s t : Site) → IsSite P c s → IsSite P c t → s ≡ t
+pub one_site : (P : List (List ℕ) → ℕ → ℕ → Type 0) (c : List (List ℕ)) (s t : Site) → IsSite P c s → IsSite P c t →
+    s ≡ t
 one_site P [] s t h k = absurd h
 one_site P (name ∷ names) s t h k = one_named P (name ∷ names) s t h k
 
@@ -61,15 +64,22 @@ module _ (P Q : List (List ℕ) → ℕ → ℕ → Type 0) (same : SameSpelling
   pub same_child : (c : List (List ℕ)) (name : List ℕ) → IsChild P c name → IsChild Q c name
   same_child c name h = (h.0, same_site (c ++ name ∷ []) h.0 h.1)
 
-pub same_children : (P Q : List (List ℕ) → ℕ → ℕ → Type 0) → SameSpellings P Q → (c : List (List ℕ)) (names : List (List ℕ)) → ListsChildren P c names → ListsChildren Q c names
+pub same_children : (P Q : List (List ℕ) → ℕ → ℕ → Type 0) → SameSpellings P Q →
+    (c : List (List ℕ)) (names : List (List ℕ)) → ListsChildren P c names → ListsChildren Q c names
 same_children P Q same c names h = record {
-  exact = λ name. (λ k. same_child P Q same c name ((h.exact name).0 k), λ k. (h.exact name).1 (same_child Q P (same_back P Q same) c name k));
+  exact = λ name. (
+    λ k. same_child P Q same c name ((h.exact name).0 k),
+    λ k.
+        (h.exact name).1 (same_child Q P (same_back P Q same) c name k),
+  );
   rising = h.rising;
 }
 
 -- a list in another order has the same spellings
-pub same_listed : (spelled other : List Spelled) → IsPermutation spelled other → SameSpellings (Lists spelled) (Lists other)
+pub same_listed : (spelled other : List Spelled) → IsPermutation spelled other →
+    SameSpellings (Lists spelled) (Lists other)
 same_listed spelled other moved c root file = (
   λ h. Contains-permutation spelled other (record { constant = c; root = root; file = file }) moved h,
-  λ h. Contains-permutation other spelled (record { constant = c; root = root; file = file }) (IsPermutation-sym spelled other moved) h,
+  λ h. Contains-permutation other spelled (record { constant = c; root = root; file = file })
+      (IsPermutation-sym spelled other moved) h,
 )

@@ -1,5 +1,7 @@
 -- What a table's calls give: the row of a path, or that there is none; shadowed files.
-use Rattle.std.proofs.Common.{◌≡◌, ◌↔◌, ℕ, zero, suc, ◌<◌, ◌≤◌, ◌+◌, Bool, true, false, cond, eqb, nat_eq, List, [], ◌∷◌, length, get_or, HoldsAt, Contains, All, AllPairs, Option, Some, None, refl, sym, ap, ◌∙◌, subst, inl, inr, ◌⊎◌, arith}
+use Rattle.std.proofs.Common.{◌≡◌, ◌↔◌, ℕ, zero, suc, ◌<◌, ◌≤◌, ◌+◌, Bool, true, false, cond, eqb, nat_eq, List, []}
+use Rattle.std.proofs.Common.{◌∷◌, length, get_or, HoldsAt, Contains, All, AllPairs, Option, Some, None, refl, sym, ap}
+use Rattle.std.proofs.Common.{◌∙◌, subst, inl, inr, ◌⊎◌, arith}
 use Rattle.std.specs.Prelude.{IfSome, IfNone}
 use Rattle.std.specs.List.{list_any, dedup}
 use Rattle.std.specs.List.Sorted.{IsPermutation, IsNonDecreasingBy, IsPartitionPoint}
@@ -20,31 +22,41 @@ use Rattle.tree_scan_sites.specs.Reached.{paths_from}
 use Rattle.tree_scan_sites.specs.Rows.{paths_of_rows}
 use Rattle.tree_scan_sites.specs.Table.{IsTable}
 use Rattle.tree_scan_sites.proofs.OrderLaws.{path_order_total, exact_paths, order_itself, later_is, same_tests}
-use Rattle.tree_scan_sites.proofs.MemberLaws.{In, Contains-from_in, in_from_Contains, in_append, in_front, in_behind, mapped_in, Each, of_each, each_weaker, All-from_each, Rises, AllPairs-from_rises}
-use Rattle.tree_scan_sites.proofs.FileLaws.{NotAfter, in_order_rise, spelling, file_from_first, none_from_first, first_from_file}
-use Rattle.tree_scan_sites.proofs.RowLaws.{IsRow, all_rise, rows_are, row_site, row_children, top_children, no_children, site_reached, paths_of_rows-rows_of}
+use Rattle.tree_scan_sites.proofs.MemberLaws.{In, Contains-from_in, in_from_Contains, in_append, in_front, in_behind}
+use Rattle.tree_scan_sites.proofs.MemberLaws.{mapped_in, Each, of_each, each_weaker, All-from_each, Rises}
+use Rattle.tree_scan_sites.proofs.MemberLaws.{AllPairs-from_rises}
+use Rattle.tree_scan_sites.proofs.FileLaws.{NotAfter, in_order_rise, spelling, file_from_first, none_from_first}
+use Rattle.tree_scan_sites.proofs.FileLaws.{first_from_file}
+use Rattle.tree_scan_sites.proofs.RowLaws.{IsRow, all_rise, rows_are, row_site, row_children, top_children, no_children}
+use Rattle.tree_scan_sites.proofs.RowLaws.{site_reached, paths_of_rows-rows_of}
 
 -- ---- files that are hidden
-in_flat : (all : List Spelled) (file : ℕ) (spelled : List Spelled) → In file (hidden_files all spelled) → (s : Spelled) × In s spelled × In file (hidden_file all s)
+in_flat : (all : List Spelled) (file : ℕ) (spelled : List Spelled) → In file (hidden_files all spelled) →
+    (s : Spelled) × In s spelled × In file (hidden_file all s)
 in_flat all file [] h = absurd h
 in_flat all file (s ∷ spelled) h = elim (in_append file (hidden_file all s) (hidden_files all spelled) h) [
   | inl a ↦ (s, inl refl, a)
   | inr b ↦ let r = in_flat all file spelled b in (r.0, inr r.1, r.2)
 ]
 
-flat_in : (all : List Spelled) (file : ℕ) (spelled : List Spelled) (s : Spelled) → In s spelled → In file (hidden_file all s) → In file (hidden_files all spelled)
+flat_in : (all : List Spelled) (file : ℕ) (spelled : List Spelled) (s : Spelled) → In s spelled →
+    In file (hidden_file all s) → In file (hidden_files all spelled)
 flat_in all file [] s h k = absurd h
 flat_in all file (t ∷ spelled) s h k = elim h [
-  | inl e ↦ in_front file (hidden_file all t) (hidden_files all spelled) (subst (λ (u : Spelled). In file (hidden_file all u)) (sym e) k)
+  | inl e ↦ in_front file (hidden_file all t) (hidden_files all spelled)
+      (subst (λ (u : Spelled). In file (hidden_file all u)) (sym e) k)
   | inr m ↦ in_behind file (hidden_file all t) (hidden_files all spelled) (flat_in all file spelled s m k)
 ]
 
-hidden_one : (all : List Spelled) (s : Spelled) (file : ℕ) → In file (hidden_file all s) → (is_file (first_file s.constant all) s.file ≡ false) × (s.file ≡ file)
+hidden_one : (all : List Spelled) (s : Spelled) (file : ℕ) → In file (hidden_file all s) →
+    (is_file (first_file s.constant all) s.file ≡ false) × (s.file ≡ file)
 hidden_one all s file h =
-    elim (is_file (first_file s.constant all) s.file) as (λ v. is_file (first_file s.constant all) s.file ≡ v → In file (cond v [] (s.file ∷ [])) → (is_file (first_file s.constant all) s.file ≡ false) × (s.file ≡ file))
+    elim (is_file (first_file s.constant all) s.file) as (λ v. is_file (first_file s.constant all) s.file ≡ v →
+    In file (cond v [] (s.file ∷ [])) → (is_file (first_file s.constant all) s.file ≡ false) × (s.file ≡ file))
     [ true ↦ λ e k. absurd k | false ↦ λ e k. (e, elim k [ inl z ↦ z | inr z ↦ absurd z ]) ] refl h
 
-one_hidden : (all : List Spelled) (s : Spelled) → is_file (first_file s.constant all) s.file ≡ false → In s.file (hidden_file all s)
+one_hidden : (all : List Spelled) (s : Spelled) → is_file (first_file s.constant all) s.file ≡ false →
+    In s.file (hidden_file all s)
 one_hidden all s e = subst (λ (v : Bool). In s.file (cond v [] (s.file ∷ []))) (sym e) (inl refl)
 
 file_is : (o : Option ℕ) (file : ℕ) → is_file o file ≡ true → o ≡ Some file
@@ -60,22 +72,33 @@ module _ (spelled : List Spelled) (rise : Rises NotAfter spelled) where
       let r = in_flat spelled file spelled h in
       let s = r.0 in
       let one = hidden_one spelled s file r.2 in
-      let listed : Lists spelled s.constant s.root file = subst (λ (f : ℕ). Lists spelled s.constant s.root f) one.1 (Contains-from_in s spelled r.1) in
-      (s.constant, s.root, listed, λ is. false≢true (sym one.0 ∙ (ap (λ f. is_file (first_file s.constant spelled) f) one.1 ∙ (ap (λ o. is_file o file) (first_from_file spelled rise s.constant file is) ∙ is_file-Some file))))
+      let listed : Lists spelled s.constant s.root file = subst (λ (f : ℕ). Lists spelled s.constant s.root f) one.1
+      (Contains-from_in s spelled r.1) in (
+        s.constant,
+        s.root,
+        listed,
+        λ is.
+            false≢true (sym one.0 ∙ (ap (λ f. is_file (first_file s.constant spelled) f) one.1
+            ∙ (ap (λ o. is_file o file) (first_from_file spelled rise s.constant file is) ∙ is_file-Some file))),
+      )
 
   hidden_from_shadowed : (file : ℕ) → IsShadowed (Lists spelled) file → In file (hidden_files spelled spelled)
   hidden_from_shadowed file h =
       let s = spelling h.0 h.1 file in
-      elim (is_file (first_file h.0 spelled) file) as (λ v. is_file (first_file h.0 spelled) file ≡ v → In file (hidden_files spelled spelled)) [
+      elim (is_file (first_file h.0 spelled) file) as (λ v. is_file (first_file h.0 spelled) file ≡ v →
+      In file (hidden_files spelled spelled)) [
         | true ↦ λ e. absurd (h.3 (file_from_first spelled rise h.0 file (file_is (first_file h.0 spelled) file e)))
         | false ↦ λ e. flat_in spelled file spelled s (in_from_Contains s spelled h.2) (one_hidden spelled s e)
       ] refl
 
 -- what a sort and `dedup` leave has the same files
-pub same_files : (hidden sorted files : List ℕ) → IsPermutation hidden sorted → files ≡ dedup eqb sorted → (file : ℕ) → Contains files file ↔ Contains hidden file
+pub same_files : (hidden sorted files : List ℕ) → IsPermutation hidden sorted → files ≡ dedup eqb sorted →
+    (file : ℕ) → Contains files file ↔ Contains hidden file
 same_files hidden sorted files moved e file = (
-  λ h. Contains-permutation sorted hidden file (IsPermutation-sym hidden sorted moved) (Contains-from_dedup eqb sorted file (subst (λ (fs : List ℕ). Contains fs file) e h)),
-  λ h. subst (λ (fs : List ℕ). Contains fs file) (sym e) (Contains-dedup_nat sorted file (Contains-permutation hidden sorted file moved h)),
+  λ h. Contains-permutation sorted hidden file (IsPermutation-sym hidden sorted moved)
+      (Contains-from_dedup eqb sorted file (subst (λ (fs : List ℕ). Contains fs file) e h)),
+  λ h. subst (λ (fs : List ℕ). Contains fs file) (sym e)
+      (Contains-dedup_nat sorted file (Contains-permutation hidden sorted file moved h)),
 )
 
 any_listed : (file : ℕ) (files : List ℕ) → list_any (nat_eq file) files ≡ true → Contains files file
@@ -84,20 +107,26 @@ any_listed file files h = Contains-from_any {eq = nat_eq} (λ x y e. eqb-true x 
 listed_any : (file : ℕ) (files : List ℕ) → Contains files file → list_any (nat_eq file) files ≡ true
 listed_any file files h = list_any-from_Contains nat_eq_equiv file files h
 
-pub same_answers : (files hidden : List ℕ) → ((file : ℕ) → Contains files file ↔ Contains hidden file) → (file : ℕ) → list_any (nat_eq file) files ≡ list_any (nat_eq file) hidden
+pub same_answers : (files hidden : List ℕ) → ((file : ℕ) → Contains files file ↔ Contains hidden file) → (file : ℕ) →
+    list_any (nat_eq file) files ≡ list_any (nat_eq file) hidden
 same_answers files hidden same file = same_tests (list_any (nat_eq file) files) (list_any (nat_eq file) hidden)
     (λ h. listed_any file hidden ((same file).0 (any_listed file files h)))
     (λ h. listed_any file files ((same file).1 (any_listed file hidden h)))
 
 -- ---- a table
-module _ {spelled : List Spelled} {rows : List SiteRow} {tops nothing : List (List ℕ)} {files : List ℕ} (t : IsTable spelled rows tops nothing files) where
+module _ {spelled : List Spelled} {rows : List SiteRow} {tops nothing : List (List ℕ)} {files : List ℕ}
+    (t : IsTable spelled rows tops nothing files) where
   pub spelled_rise : Rises NotAfter spelled
   spelled_rise = in_order_rise spelled t.sorted
 
   pub shadowed_exact : (file : ℕ) → Contains files file ↔ IsShadowed (Lists spelled) file
   shadowed_exact file = (
-    λ h. shadowed_from_hidden spelled spelled_rise file (in_from_Contains file (hidden_files spelled spelled) (any_listed file (hidden_files spelled spelled) (sym (t.hidden file) ∙ listed_any file files h))),
-    λ h. any_listed file files (t.hidden file ∙ listed_any file (hidden_files spelled spelled) (Contains-from_in file (hidden_files spelled spelled) (hidden_from_shadowed spelled spelled_rise file h))),
+    λ h. shadowed_from_hidden spelled spelled_rise file
+        (in_from_Contains file (hidden_files spelled spelled)
+        (any_listed file (hidden_files spelled spelled) (sym (t.hidden file) ∙ listed_any file files h))),
+    λ h. any_listed file files
+        (t.hidden file ∙ listed_any file (hidden_files spelled spelled)
+        (Contains-from_in file (hidden_files spelled spelled) (hidden_from_shadowed spelled spelled_rise file h))),
   )
 
   pub are_rows : Each (IsRow spelled (paths_from [] spelled)) rows
@@ -105,11 +134,14 @@ module _ {spelled : List Spelled} {rows : List SiteRow} {tops nothing : List (Li
 
   pub all_sites : All (λ row. IsSite (Lists spelled) row.path row.site) rows
   all_sites = All-from_each (λ row. IsSite (Lists spelled) row.path row.site) rows
-      (each_weaker (IsRow spelled (paths_from [] spelled)) (λ row. IsSite (Lists spelled) row.path row.site) (λ row r. row_site spelled spelled_rise row r) rows are_rows)
+      (each_weaker (IsRow spelled (paths_from [] spelled)) (λ row. IsSite (Lists spelled) row.path row.site)
+      (λ row r. row_site spelled spelled_rise row r) rows are_rows)
 
   pub all_children : All (λ row. ListsChildren (Lists spelled) row.path row.children) rows
   all_children = All-from_each (λ row. ListsChildren (Lists spelled) row.path row.children) rows
-      (each_weaker (IsRow spelled (paths_from [] spelled)) (λ row. ListsChildren (Lists spelled) row.path row.children) (λ row r. row_children spelled spelled_rise row r) rows are_rows)
+      (each_weaker (IsRow spelled (paths_from [] spelled))
+      (λ row. ListsChildren (Lists spelled) row.path row.children)
+      (λ row r. row_children spelled spelled_rise row r) rows are_rows)
 
   paths_are : paths_of_rows rows ≡ paths_from [] spelled
   paths_are = ap paths_of_rows t.rows ∙ paths_of_rows-rows_of spelled (paths_from [] spelled)
@@ -117,55 +149,68 @@ module _ {spelled : List Spelled} {rows : List SiteRow} {tops nothing : List (Li
   in_rows : (path : List (List ℕ)) (site : Site) → IsSite (Lists spelled) path site → In path (paths_of_rows rows)
   in_rows path site h = subst (In path) (sym paths_are) (site_reached spelled spelled_rise path site h)
 
-  pub all_listed : (path : List (List ℕ)) (site : Site) → IsSite (Lists spelled) path site → Contains (paths_of_rows rows) path
+  pub all_listed : (path : List (List ℕ)) (site : Site) → IsSite (Lists spelled) path site →
+      Contains (paths_of_rows rows) path
   all_listed path site h = Contains-from_in path (paths_of_rows rows) (in_rows path site h)
 
   pub rows_rise : AllPairs (λ row later. IsBeforePath row.path later.path) rows
   rows_rise = AllPairs-from_rises (λ row later. IsBeforePath row.path later.path) rows
       (rises_of rows (subst (Rises IsBeforePath) (sym paths_are) (all_rise spelled spelled_rise)))
     where
-      each_of_paths : (p : List (List ℕ)) (rs : List SiteRow) → Each (IsBeforePath p) (paths_of_rows rs) → Each (λ later. IsBeforePath p later.path) rs
+      each_of_paths : (p : List (List ℕ)) (rs : List SiteRow) → Each (IsBeforePath p) (paths_of_rows rs) →
+          Each (λ later. IsBeforePath p later.path) rs
       each_of_paths p [] h = tt
       each_of_paths p (r ∷ rs) h = (h.0, each_of_paths p rs h.1)
 
-      rises_of : (rs : List SiteRow) → Rises IsBeforePath (paths_of_rows rs) → Rises (λ row later. IsBeforePath row.path later.path) rs
+      rises_of : (rs : List SiteRow) → Rises IsBeforePath (paths_of_rows rs) →
+          Rises (λ row later. IsBeforePath row.path later.path) rs
       rises_of [] h = tt
       rises_of (r ∷ rs) h = (each_of_paths r.path rs h.0, rises_of rs h.1)
 
-  pub found_file : (path : List (List ℕ)) (first : Option ℕ) → first ≡ first_file path spelled → IfSome first (IsFileOf (Lists spelled) path)
+  pub found_file : (path : List (List ℕ)) (first : Option ℕ) → first ≡ first_file path spelled →
+      IfSome first (IsFileOf (Lists spelled) path)
   found_file path None e = tt
   found_file path (Some file) e = file_from_first spelled spelled_rise path file (sym e)
 
-  pub no_file : (path : List (List ℕ)) (first : Option ℕ) → first ≡ first_file path spelled → IfNone first ((file : ℕ) → IsFileOf (Lists spelled) path file → ⊥)
+  pub no_file : (path : List (List ℕ)) (first : Option ℕ) → first ≡ first_file path spelled →
+      IfNone first ((file : ℕ) → IsFileOf (Lists spelled) path file → ⊥)
   no_file path None e = λ file h. none_from_first spelled path (sym e) h.0 file h.1
   no_file path (Some first) e = tt
 
   -- ---- the row of a path
-  module _ (path : List (List ℕ)) (place : ℕ) (row : SiteRow) (within : place < length rows) (at : row ≡ get_or rows place row) (is : HoldsAt (λ r. path_order r.path path ≡ Equal) rows place) where
+  module _ (path : List (List ℕ)) (place : ℕ) (row : SiteRow) (within : place < length rows)
+      (at : row ≡ get_or rows place row) (is : HoldsAt (λ r. path_order r.path path ≡ Equal) rows place) where
     has_path : row.path ≡ path
     has_path = exact_paths row.path path (ap (λ r. path_order r.path path) at ∙ is row)
 
     the_row : IsRow spelled (paths_from [] spelled) row
-    the_row = of_each (IsRow spelled (paths_from [] spelled)) rows row are_rows (in_from_Contains row rows (place, within, sym at))
+    the_row = of_each (IsRow spelled (paths_from [] spelled)) rows row are_rows
+        (in_from_Contains row rows (place, within, sym at))
 
     pub found_site : IsSite (Lists spelled) path row.site
-    found_site = subst (λ (p : List (List ℕ)). IsSite (Lists spelled) p row.site) has_path (row_site spelled spelled_rise row the_row)
+    found_site = subst (λ (p : List (List ℕ)). IsSite (Lists spelled) p row.site) has_path
+        (row_site spelled spelled_rise row the_row)
 
     pub found_children : ListsChildren (Lists spelled) path row.children
-    found_children = subst (λ (p : List (List ℕ)). ListsChildren (Lists spelled) p row.children) has_path (row_children spelled spelled_rise row the_row)
+    found_children = subst (λ (p : List (List ℕ)). ListsChildren (Lists spelled) p row.children) has_path
+        (row_children spelled spelled_rise row the_row)
 
   searchable : (path : List (List ℕ)) → IsNonDecreasingBy (λ r. ordering_index (path_order r.path path)) rows
   searchable path = searchable_from_sorted path_order_total (λ r. r.path) rows path
-      (λ k d low high. ap is_lt (later_is (get_or rows k d).path (get_or rows (k + 1) d).path (rows_rise k (k + 1) d (omega arith) high)))
+      (λ k d low high. ap is_lt
+      (later_is (get_or rows k d).path (get_or rows (k + 1) d).path (rows_rise k (k + 1) d (omega arith) high)))
 
   -- ---- a path without a row
-  module _ (path : List (List ℕ)) (place : ℕ) (parts : IsNonDecreasingBy (λ r. ordering_index (path_order r.path path)) rows → IsPartitionPoint (λ r. path_order r.path path ≡ Less) (λ r. path_order r.path path ≡ Greater) rows place) where
+  module _ (path : List (List ℕ)) (place : ℕ)
+      (parts : IsNonDecreasingBy (λ r. ordering_index (path_order r.path path)) rows →
+      IsPartitionPoint (λ r. path_order r.path path ≡ Less) (λ r. path_order r.path path ≡ Greater) rows place) where
     no_row : In path (paths_of_rows rows) → ⊥
     no_row h =
         let found = mapped_in (λ row. row.path) path rows h in
         let row = found.0 in
         let at = Contains-from_in row rows found.2 in
-        let equal : path_order (get_or rows at.0 row).path path ≡ Equal = ap (λ r. path_order r.path path) at.2 ∙ (ap (λ p. path_order p path) found.1 ∙ order_itself path) in
+        let equal : path_order (get_or rows at.0 row).path path ≡ Equal = ap (λ r. path_order r.path path) at.2
+        ∙ (ap (λ p. path_order p path) found.1 ∙ order_itself path) in
         let both = parts (searchable path) in
         elim (lt_or at.0 place) [
           | inl a ↦ (let z : Less ≡ Equal = sym (both.0 at.0 row (omega arith) a) ∙ equal in cc)
@@ -181,7 +226,9 @@ module _ {spelled : List Spelled} {rows : List SiteRow} {tops nothing : List (Li
     missing_site site h = no_row (in_rows path site h)
 
     pub missing_children : (path ≡ [] → ⊥) → ListsChildren (Lists spelled) path nothing
-    missing_children some = subst (ListsChildren (Lists spelled) path) (sym t.none) (no_children spelled spelled_rise path some (λ h. no_row (subst (In path) (sym paths_are) h)))
+    missing_children some = subst (ListsChildren (Lists spelled) path) (sym t.none)
+        (no_children spelled spelled_rise path some (λ h. no_row (subst (In path) (sym paths_are) h)))
 
   pub tops_are : (path : List (List ℕ)) → path ≡ [] → ListsChildren (Lists spelled) path tops
-  tops_are path e = subst (λ (p : List (List ℕ)). ListsChildren (Lists spelled) p tops) (sym e) (subst (ListsChildren (Lists spelled) []) (sym t.top) (top_children spelled spelled_rise))
+  tops_are path e = subst (λ (p : List (List ℕ)). ListsChildren (Lists spelled) p tops) (sym e)
+      (subst (ListsChildren (Lists spelled) []) (sym t.top) (top_children spelled spelled_rise))

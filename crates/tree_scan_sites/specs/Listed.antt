@@ -12,7 +12,8 @@ Lists spelled c root file = Contains spelled (record { constant = c; root = root
 
 -- by constant, then by root, then by file
 abbrev pub spelled_order : Spelled → Spelled → Ordering
-spelled_order s t = ordering_then (path_order s.constant t.constant) (ordering_then (nat_cmp s.root t.root) (nat_cmp s.file t.file))
+spelled_order s t = ordering_then (path_order s.constant t.constant)
+    (ordering_then (nat_cmp s.root t.root) (nat_cmp s.file t.file))
 
 -- the spelling's constant is before the path
 abbrev pub comes_before : List (List ℕ) → Spelled → Bool

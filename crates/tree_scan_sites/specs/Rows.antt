@@ -1,5 +1,6 @@
 -- The table's rows: the functions that they are made by.
-use Rattle.std.specs.Prelude.{ℕ, zero, suc, Bool, true, false, cond, List, [], ◌∷◌, ◌++◌, map, length, Option, Some, None, ◌==◌, nat_lt}
+use Rattle.std.specs.Prelude.{ℕ, zero, suc, Bool, true, false, cond, List, [], ◌∷◌, ◌++◌, map, length, Option, Some}
+use Rattle.std.specs.Prelude.{None, ◌==◌, nat_lt}
 use Rattle.tree_scan_sites.specs.declared.spelled.Spelled.{Spelled}
 use Rattle.tree_scan_sites.specs.declared.spelled.SiteRow.{SiteRow}
 use Rattle.tree_scan_sites.specs.declared.spelled.Site.{Site}

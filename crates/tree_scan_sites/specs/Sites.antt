@@ -11,11 +11,14 @@ use Rattle.tree_scan_sites.specs.declared.spelled.Site.TheVariants.{File, Explic
 abbrev pub NoLater : (root file : ℕ) → (other_root other_file : ℕ) → Type 0
 NoLater root file other_root other_file = (root < other_root) ⊎ ((root ≡ other_root) × (file ≤ other_file))
 
--- The file of a constant is the first among those that spell it (Zeitwerk README, "Shadowed files"): later ones are not loaded.
+-- The file of a constant is the first among those that spell it (Zeitwerk README, "Shadowed files"): later ones are
+-- not loaded.
 abbrev pub IsFileOf : (List (List ℕ) → ℕ → ℕ → Type 0) → (c : List (List ℕ)) → (file : ℕ) → Type 0
-IsFileOf P c file = (root : ℕ) × P c root file × ((other_root other_file : ℕ) → P c other_root other_file → NoLater root file other_root other_file)
+IsFileOf P c file = (root : ℕ) × P c root file
+    × ((other_root other_file : ℕ) → P c other_root other_file → NoLater root file other_root other_file)
 
--- A constant is a namespace where a file spells a constant inside it, however deep (Zeitwerk README, "Implicit namespaces").
+-- A constant is a namespace where a file spells a constant inside it, however deep (Zeitwerk README, "Implicit
+-- namespaces").
 abbrev pub IsNamespace : (List (List ℕ) → ℕ → ℕ → Type 0) → (c : List (List ℕ)) → Type 0
 IsNamespace P c = (name : List ℕ) × (names : List (List ℕ)) × (root : ℕ) × (file : ℕ) × P (c ++ name ∷ names) root file
 
@@ -23,7 +26,8 @@ IsNamespace P c = (name : List ℕ) × (names : List (List ℕ)) × (root : ℕ)
 abbrev pub IsShadowed : (List (List ℕ) → ℕ → ℕ → Type 0) → (file : ℕ) → Type 0
 IsShadowed P file = (c : List (List ℕ)) × (root : ℕ) × P c root file × (IsFileOf P c file → ⊥)
 
--- The site of a constant that has a name: its file, a file that is a namespace too (Zeitwerk README, "Explicit namespaces"), or a namespace alone.
+-- The site of a constant that has a name: its file, a file that is a namespace too (Zeitwerk README, "Explicit
+-- namespaces"), or a namespace alone.
 abbrev pub IsNamedSite : (List (List ℕ) → ℕ → ℕ → Type 0) → (c : List (List ℕ)) → Site → Type 0
 IsNamedSite P c (File file) = IsFileOf P c file × (IsNamespace P c → ⊥)
 IsNamedSite P c (Explicit file) = IsFileOf P c file × IsNamespace P c

@@ -8,7 +8,8 @@ use Rattle.tree_scan_sites.specs.Listed.{spelled_order, hidden_files}
 use Rattle.tree_scan_sites.specs.Reached.{paths_from}
 use Rattle.tree_scan_sites.specs.Rows.{rows_of, children_run}
 
-pub record IsTable (spelled : List Spelled) (all : List SiteRow) (tops nothing : List (List ℕ)) (files : List ℕ) : Type 0 where
+pub record IsTable (spelled : List Spelled) (all : List SiteRow) (tops nothing : List (List ℕ))
+    (files : List ℕ) : Type 0 where
   pub sorted : IsSorted spelled_order spelled
   pub rows : all ≡ rows_of spelled (paths_from [] spelled)
   pub top : tops ≡ children_run 0 (paths_from [] spelled)

@@ -37,7 +37,8 @@ pub(crate) fn put_in_order(spelled: &mut Vec<Spelled>) -> Result<(), AllocError>
 fn place_of(spelled: &[Spelled], path: &[Text]) -> usize
     requires { IsSorted spelled_order spelled.now }
     ensures bound { result ≤ length spelled.now }
-    ensures parted { IsPartitionPoint (λ s. comes_before path.now s ≡ true) (λ s. comes_before path.now s ≡ false) spelled.now result }
+    ensures parted { IsPartitionPoint (λ s. comes_before path.now s ≡ true) (λ s. comes_before path.now s ≡ false)
+        spelled.now result }
 {
     spelled.partition_point(
         |entry: &Spelled| -> bool

@@ -33,7 +33,8 @@ fn hidden(alloc: Global, spelled: &[Spelled]) -> Result<Vec<u32>, AllocError>
 pub(crate) fn shadowed_in(alloc: Global, spelled: &[Spelled]) -> Result<Vec<u32>, AllocError>
     requires { IsSorted spelled_order spelled.now }
     ensures rising { IfOk result (λ files. IsStrictlyIncreasing files.items) }
-    ensures exact { IfOk result (λ files. (file : ℕ) → Contains files.items file ↔ Contains (hidden_files spelled.now spelled.now) file) }
+    ensures exact { IfOk result (λ files. (file : ℕ) →
+        Contains files.items file ↔ Contains (hidden_files spelled.now spelled.now) file) }
 {
     let mut files = hidden(alloc, spelled)?;
     files.sort_unstable();

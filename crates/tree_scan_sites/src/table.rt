@@ -71,7 +71,8 @@ impl SiteTable {
     pub fn rows(&self) -> &[SiteRow]
         ensures sites { All (λ row. IsSite (Lists self.now) row.path row.site) result.now }
         ensures children { All (λ row. ListsChildren (Lists self.now) row.path row.children) result.now }
-        ensures complete { (path : List (List ℕ)) (site : Site) → IsSite (Lists self.now) path site → Contains (paths_of_rows result.now) path }
+        ensures complete { (path : List (List ℕ)) (site : Site) → IsSite (Lists self.now) path site →
+            Contains (paths_of_rows result.now) path }
         ensures rising { AllPairs (λ row later. IsBeforePath row.path later.path) result.now }
     {
         self.rows.as_slice()

@@ -1,11 +1,11 @@
 use lists::Text;
 use plain_text::segments;
 use ruby_types::CPath;
-use tree_scan_sites::{Names, Site, SiteTable, Spelled};
 use std::alloc::{AllocError, Global};
 use std::process::Abort;
 use std::test::Fail;
 use std::time::{Duration, Instant};
+use tree_scan_sites::{Names, Site, SiteTable, Spelled};
 
 /// The path whose names stand between slashes; Object's for the empty text.
 fn path_of(alloc: Global, text: &[u8]) -> Result<CPath, AllocError> {

@@ -7,7 +7,8 @@ use std::alloc::{AllocError, Global};
 use std::test::Fail;
 use tree_scan::{ScanFault, Site, SiteRow, Sites, scan};
 
-/// An application and what its scan tells: each constant, `=` for a file, `+` for a file that is a namespace too, and the
+/// An application and what its scan tells: each constant, `=` for a file, `+` for a file that is a namespace too, and
+/// the
 /// file's place, or `*` for a namespace alone; then each shadowed path behind a `-`.
 struct Case {
     config: &'static [u8],

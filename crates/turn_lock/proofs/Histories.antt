@@ -1,5 +1,6 @@
 -- Lemmas on histories: entries of a number, and beginnings.
-use Rattle.std.proofs.Common.{◌≡◌, ◌≢◌, ℕ, ◌≤◌, List, [], ◌∷◌, ◌++◌, length, Bool, true, false, refl, sym, subst, cond, ap, ◌∙◌, arith, append_assoc, append-nil}
+use Rattle.std.proofs.Common.{◌≡◌, ◌≢◌, ℕ, ◌≤◌, List, [], ◌∷◌, ◌++◌, length, Bool, true, false, refl, sym, subst, cond}
+use Rattle.std.proofs.Common.{ap, ◌∙◌, arith, append_assoc, append-nil}
 use Rattle.std.specs.Prelude.{nat_le}
 use borrow.Author.Tests.{leb-true, leb-false}
 use Rattle.turn_lock.specs.Entries.{NoneOf, Lags, Begins, longer}
@@ -10,7 +11,8 @@ module _ {A : Type 0} where
   length-zero (x ∷ xs) e = absurd (omega arith)
 
   pub begins_after : (log now front : List A) (e : A) → now ≡ log ++ e ∷ [] → Begins front log → Begins front now
-  begins_after log now front e is b = (b.0 ++ e ∷ [], is ∙ (ap (λ l. l ++ e ∷ []) b.1 ∙ append_assoc front b.0 (e ∷ [])))
+  begins_after log now front e is b =
+      (b.0 ++ e ∷ [], is ∙ (ap (λ l. l ++ e ∷ []) b.1 ∙ append_assoc front b.0 (e ∷ [])))
 
 module _ {E : Type 0} (seat_of : E → ℕ) where
   pub none_push : (k : ℕ) (es : List E) (e : E) → NoneOf seat_of k es → seat_of e ≢ k → NoneOf seat_of k (es ++ e ∷ [])
@@ -29,7 +31,8 @@ module _ {E : Type 0} (seat_of : E → ℕ) where
   none-append k [] ys x y = y
   none-append k (e ∷ xs) ys x y = (x.0, none-append k xs ys x.1 y)
 
-  pub lags_push : (k : ℕ) (seen log : List E) (e : E) → Lags seat_of k seen log → seat_of e ≢ k → Lags seat_of k seen (log ++ e ∷ [])
+  pub lags_push : (k : ℕ) (seen log : List E) (e : E) → Lags seat_of k seen log → seat_of e ≢ k →
+      Lags seat_of k seen (log ++ e ∷ [])
   lags_push k seen log e h apart = record {
     more = h.more ++ e ∷ [];
     is = ap (λ l. l ++ e ∷ []) h.is ∙ append_assoc seen h.more (e ∷ []);
@@ -51,7 +54,8 @@ module _ {E : Type 0} (seat_of : E → ℕ) where
   }
 
   -- of two beginnings of one list the shorter begins the longer
-  two_begin : (xs ys a b : List E) → xs ++ a ≡ ys ++ b → length ys ≤ length xs → (c : List E) × (xs ≡ ys ++ c) × (b ≡ c ++ a)
+  two_begin : (xs ys a b : List E) → xs ++ a ≡ ys ++ b → length ys ≤ length xs → (c : List E) × (xs ≡ ys ++ c)
+      × (b ≡ c ++ a)
   two_begin xs [] a b e l = (xs, refl, sym e)
   two_begin [] (y ∷ ys) a b e l = absurd (omega arith)
   two_begin (x ∷ xs) (y ∷ ys) a b e l =
@@ -60,12 +64,19 @@ module _ {E : Type 0} (seat_of : E → ℕ) where
       let t = two_begin xs ys a b tail (omega arith) in
       (t.0, (λ i. head i ∷ t.1 i), t.2)
 
-  pub compare : (k : ℕ) (seen heard log : List E) → Lags seat_of k seen log → Begins heard log → Lags seat_of k seen (longer seen heard) × Begins heard (longer seen heard) × Lags seat_of k (longer seen heard) log
+  pub compare : (k : ℕ) (seen heard log : List E) → Lags seat_of k seen log → Begins heard log →
+      Lags seat_of k seen (longer seen heard) × Begins heard (longer seen heard)
+      × Lags seat_of k (longer seen heard) log
   compare k seen heard log l h = by_test (nat_le (length heard) (length seen)) refl
     where
-      by_test : (b : Bool) → nat_le (length heard) (length seen) ≡ b → Lags seat_of k seen (cond b seen heard) × Begins heard (cond b seen heard) × Lags seat_of k (cond b seen heard) log
-      by_test true e = let t = two_begin seen heard l.more h.0 (sym l.is ∙ h.1) (leb-true _ _ e) in (lags_none k seen seen refl, (t.0, t.1), l)
+      by_test : (b : Bool) → nat_le (length heard) (length seen) ≡ b → Lags seat_of k seen (cond b seen heard)
+          × Begins heard (cond b seen heard) × Lags seat_of k (cond b seen heard) log
+      by_test true e = let t = two_begin seen heard l.more h.0 (sym l.is ∙ h.1) (leb-true _ _ e) in
+          (lags_none k seen seen refl, (t.0, t.1), l)
       by_test false e = let le = leb-false (length heard) (length seen) e in
           let t = two_begin heard seen h.0 l.more (sym h.1 ∙ l.is) (omega arith) in
-          let none = subst (NoneOf seat_of k) t.2 l.none in
-          (record { more = t.0; is = t.1; none = none_before k t.0 h.0 none }, ([], sym (append-nil heard)), record { more = h.0; is = h.1; none = none_after k t.0 h.0 none })
+          let none = subst (NoneOf seat_of k) t.2 l.none in (
+            record { more = t.0; is = t.1; none = none_before k t.0 h.0 none },
+            ([], sym (append-nil heard)),
+            record { more = h.0; is = h.1; none = none_after k t.0 h.0 none },
+          )

@@ -1,5 +1,6 @@
 -- The rule of the table: what holds between any two steps.
-use Rattle.std.specs.Prelude.{◌≡◌, ℕ, ◌+◌, ◌%◌, ◌^◌, ◌<◌, ◌≤◌, Bool, true, false, List, [], ◌∷◌, length, Option, Some, None}
+use Rattle.std.specs.Prelude.{◌≡◌, ℕ, ◌+◌, ◌%◌, ◌^◌, ◌<◌, ◌≤◌, Bool, true, false, List, [], ◌∷◌, length, Option, Some}
+use Rattle.std.specs.Prelude.{None}
 use mathlib.Core.Option.{none, some}
 use mathlib.Core.Option as maybe
 use lib.ListN.{get_elem?}
@@ -35,7 +36,8 @@ slot_home true value = none
 slot_home false value = some (Some value)
 
 module _ {B E W : Type 0} (history : B → List E) (seat_of : E → ℕ) (rows : B → ℕ → W) (rest : W) where
-  -- What the rule says of the view of the seat i. The numbers below given were given; owner has the seat of each number,
+  -- What the rule says of the view of the seat i. The numbers below given were given; owner has the seat of each
+  -- number,
   -- and holder the seat of each ticket that is out.
   pub record Fits
       (log : List E) (value : B) (taken : Bool) (served drawn given : ℕ) (owner holder : ℕ → ℕ)

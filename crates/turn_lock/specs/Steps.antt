@@ -1,5 +1,6 @@
 -- What each step tells its seat, and what a seat is between two steps.
-use Rattle.std.specs.Prelude.{◌≡◌, ◌≢◌, ℕ, ◌+◌, ◌%◌, ◌^◌, Bool, true, false, List, [], ◌∷◌, ◌++◌, Option, Some, None, IsSome}
+use Rattle.std.specs.Prelude.{◌≡◌, ◌≢◌, ℕ, ◌+◌, ◌%◌, ◌^◌, Bool, true, false, List, [], ◌∷◌, ◌++◌, Option, Some, None}
+use Rattle.std.specs.Prelude.{IsSome}
 use Rattle.atomic_table.specs.Table.{Me, Step}
 use Rattle.turn_lock.specs.declared.view.View.{View}
 use Rattle.turn_lock.specs.Entries.{NoneFrom, Lags, Begins, longer}
@@ -63,7 +64,8 @@ module _ {B E W : Type 0} where
 
   -- the seat gave the slot back, and its row is that of the value that it put home
   abbrev pub EndsTurn : (B → ℕ → W) → Step (Option B) → SeatState B E W → ℕ → SeatState B E W → Type 0
-  EndsTurn rows st m r n = n ≡ (record m.0 { ticket = None; turn = None; row = row_held rows m.0.number m.0.row m.1 }, [])
+  EndsTurn rows st m r n = n
+      ≡ (record m.0 { ticket = None; turn = None; row = row_held rows m.0.number m.0.row m.1 }, [])
 
   -- what was seen and what was heard are beginnings of one history, and in a turn all of it was seen
   abbrev pub ComparesHeard : (E → ℕ) → Step (Option B) → SeatState B E W → ℕ → SeatState B E W → Type 0
@@ -108,7 +110,8 @@ module _ {B E W : Type 0} where
   -- what a seat knows of its number, the history and its row is as before
   abbrev pub KnowsTheSame : View B E W → View B E W → Type 0
   KnowsTheSame old new =
-      (new.number ≡ old.number) × (new.next ≡ old.next) × (new.seen ≡ old.seen) × (new.row ≡ old.row) × (new.live ≡ true)
+      (new.number ≡ old.number) × (new.next ≡ old.next) × (new.seen ≡ old.seen) × (new.row ≡ old.row)
+      × (new.live ≡ true)
 
   -- the seat has no ticket and no turn
   abbrev pub IsIdle : SeatState B E W → Type 0

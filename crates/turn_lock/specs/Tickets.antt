@@ -83,7 +83,8 @@ module _ {B E W : Type 0} where
   KeepsRows rows t value =
       (b : B) (k : ℕ) → t.turn ≡ Some b → k < 64 → k ≢ t.number → rows value k ≡ rows b k
 
-  -- the history is the one that `enter` gave, which the ticket has seen, or that one with one entry of its number after it
+  -- the history is the one that `enter` gave, which the ticket has seen, or that one with one entry of its number
+  -- after it
   abbrev pub GainsOne : (B → List E) → (E → ℕ) → TicketView B E W → B → Type 0
   GainsOne history seat_of t value =
       (history value ≡ t.seen) ⊎ ((e : E) × (seat_of e ≡ t.number) × (history value ≡ t.seen ++ e ∷ []))

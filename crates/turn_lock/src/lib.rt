@@ -50,7 +50,8 @@
 //! - Each number is in at most one view, and is below 64.
 //! - In the view of number 0, the next number is above all numbers in views and all numbers in the history.
 //! - What a view has seen is a beginning of the one history, whose length is word 2, and no later entry has its number.
-//! - The slot is out exactly where some view has the turn. Its ticket is then word 1, and it has seen the whole history.
+//! - The slot is out exactly where some view has the turn. Its ticket is then word 1, and it has seen the whole
+//! history.
 //! - While the slot is at home, the history is that of the value in it.
 //! - The row in a view is the row that the value has for the view's number. Rows of numbers not yet given are at rest.
 //!

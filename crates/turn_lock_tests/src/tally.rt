@@ -1,5 +1,6 @@
 //! A list of entries with a count, and room, for each seat.
-ghost use Rattle.std.specs.Prelude.{◌≡◌, ℕ, ◌+◌, ◌%◌, ◌^◌, ◌<◌, [], ◌∷◌, ◌++◌, List, replicate, slice_index, slice_set, OnOk, OnErr};
+ghost use Rattle.std.specs.Prelude.{◌≡◌, ℕ, ◌+◌, ◌%◌, ◌^◌, ◌<◌, [], ◌∷◌, ◌++◌, List, replicate, slice_index, slice_set};
+ghost use Rattle.std.specs.Prelude.{OnOk, OnErr};
 
 use std::alloc::{AllocError, Global};
 use turn_lock::Booked;
@@ -47,10 +48,13 @@ impl Tally {
     /// Adds an entry of the seat and counts it.
     pub fn add(&mut self, seat: u32) -> Result<(), AllocError>
         requires seat { seat < 64 }
-        ensures added { OnOk result (self.new.entries.items ≡ self.old.entries.items ++ (seat, slice_index self.old.counts seat) ∷ []) }
-        ensures counted { OnOk result (self.new.counts ≡ slice_set self.old.counts seat ((slice_index self.old.counts seat + 1) % 2 ^ 32)) }
+        ensures added { OnOk result
+            (self.new.entries.items ≡ self.old.entries.items ++ (seat, slice_index self.old.counts seat) ∷ []) }
+        ensures counted { OnOk result
+            (self.new.counts ≡ slice_set self.old.counts seat ((slice_index self.old.counts seat + 1) % 2 ^ 32)) }
         ensures room { self.new.room ≡ self.old.room }
-        ensures err { OnErr result ((self.new.entries.items ≡ self.old.entries.items) × (self.new.counts ≡ self.old.counts)) }
+        ensures err { OnErr result ((self.new.entries.items ≡ self.old.entries.items)
+            × (self.new.counts ≡ self.old.counts)) }
     {
         let place = self.counts[seat as usize];
         self.entries.push((seat, place))?;

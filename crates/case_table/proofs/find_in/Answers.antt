@@ -7,7 +7,9 @@ use Rattle.case_table.proofs.find_in.Goals as goal
 
 pub halves-preserved-in-Less : goal.halves-preserved-in-Less
 halves-preserved-in-Less g c =
-    let at : slice_get (map g.T.Row.pair c.args.rows.now) (c.halves.low + (c.halves.high - c.halves.low) / 2) ≡ Some (g.T.Row.pair c.index-rows-middle.result) = get_map g.T.Row.pair c.args.rows.now _ c.index-rows-middle.result (omega arith) c.index-rows-middle.is in
+    let at : slice_get (map g.T.Row.pair c.args.rows.now) (c.halves.low + (c.halves.high - c.halves.low) / 2)
+    ≡ Some (g.T.Row.pair c.index-rows-middle.result) =
+    get_map g.T.Row.pair c.args.rows.now _ c.index-rows-middle.result (omega arith) c.index-rows-middle.is in
     let less : slice_cmp nat_cmp (g.T.Row.pair c.index-rows-middle.result).0 c.args.name.now ≡ Less = (cc) in
     record {
       order = omega arith;
@@ -18,14 +20,18 @@ halves-preserved-in-Less g c =
 
 pub returns-in-Equal-clause-found : goal.returns-in-Equal-clause-found
 returns-in-Equal-clause-found g c =
-    let at : slice_get (map g.T.Row.pair c.args.rows.now) (c.halves.low + (c.halves.high - c.halves.low) / 2) ≡ Some (g.T.Row.pair c.index-rows-middle.result) = get_map g.T.Row.pair c.args.rows.now _ c.index-rows-middle.result (omega arith) c.index-rows-middle.is in
+    let at : slice_get (map g.T.Row.pair c.args.rows.now) (c.halves.low + (c.halves.high - c.halves.low) / 2)
+    ≡ Some (g.T.Row.pair c.index-rows-middle.result) =
+    get_map g.T.Row.pair c.args.rows.now _ c.index-rows-middle.result (omega arith) c.index-rows-middle.is in
     let same : slice_cmp nat_cmp (g.T.Row.pair c.index-rows-middle.result).0 c.args.name.now ≡ Equal = (cc) in
     let e : (g.T.Row.pair c.index-rows-middle.result).0 ≡ c.args.name.now = equal_is _ _ same in
     (c.halves.low + (c.halves.high - c.halves.low) / 2, rw (← e, c.code.ensures) at)
 
 pub halves-preserved : goal.halves-preserved
 halves-preserved g c =
-    let at : slice_get (map g.T.Row.pair c.args.rows.now) (c.halves.low + (c.halves.high - c.halves.low) / 2) ≡ Some (g.T.Row.pair c.index-rows-middle.result) = get_map g.T.Row.pair c.args.rows.now _ c.index-rows-middle.result (omega arith) c.index-rows-middle.is in
+    let at : slice_get (map g.T.Row.pair c.args.rows.now) (c.halves.low + (c.halves.high - c.halves.low) / 2)
+    ≡ Some (g.T.Row.pair c.index-rows-middle.result) =
+    get_map g.T.Row.pair c.args.rows.now _ c.index-rows-middle.result (omega arith) c.index-rows-middle.is in
     let more : slice_cmp nat_cmp (g.T.Row.pair c.index-rows-middle.result).0 c.args.name.now ≡ Greater = (cc) in
     record {
       order = omega arith;
@@ -35,4 +41,5 @@ halves-preserved g c =
     }
 
 pub returns-clause-none : goal.returns-clause-none
-returns-clause-none g c = none_left (map g.T.Row.pair c.args.rows.now) c.halves.low c.args.name.now c.halves.invariant.below (λ i r h. c.halves.invariant.above i r (omega arith))
+returns-clause-none g c = none_left (map g.T.Row.pair c.args.rows.now) c.halves.low c.args.name.now
+    c.halves.invariant.below (λ i r h. c.halves.invariant.above i r (omega arith))

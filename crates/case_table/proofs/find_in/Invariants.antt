@@ -8,8 +8,10 @@ abbrev pub invariant-halves : goal.invariant-halves
 invariant-halves g l = record {
   order : l.low ≤ l.high;
   within : l.high ≤ length l.rows;
-  below : (i : ℕ) (r : List ℕ × ℕ) → i < l.low → slice_get (map g.T.Row.pair l.rows) i ≡ Some r → slice_cmp nat_cmp r.0 l.name ≡ Less;
-  above : (i : ℕ) (r : List ℕ × ℕ) → l.high ≤ i → slice_get (map g.T.Row.pair l.rows) i ≡ Some r → slice_cmp nat_cmp r.0 l.name ≡ Greater;
+  below : (i : ℕ) (r : List ℕ × ℕ) → i < l.low → slice_get (map g.T.Row.pair l.rows) i ≡ Some r →
+      slice_cmp nat_cmp r.0 l.name ≡ Less;
+  above : (i : ℕ) (r : List ℕ × ℕ) → l.high ≤ i → slice_get (map g.T.Row.pair l.rows) i ≡ Some r →
+      slice_cmp nat_cmp r.0 l.name ≡ Greater;
 }
 
 abbrev pub decreases-halves : goal.decreases-halves

@@ -62,7 +62,9 @@ decreases-primary::text_parts l = 16 * length l.reader.now + 12
 
 abbrev pub invariant-arguments::members-members : goal.invariant-arguments::members-members
 invariant-arguments::members-members l = record {
-  goes_on : (r : Result (List Expr) Fault) (end : List Word) → GivesRule (rules.members (scope_view l.fn.scope) l.list) l.reader r end → GivesRule (rules.members (scope_view l.fn.scope) []) l.fn.reader r end;
+  goes_on : (r : Result (List Expr) Fault) (end : List Word) →
+      GivesRule (rules.members (scope_view l.fn.scope) l.list) l.reader r end →
+      GivesRule (rules.members (scope_view l.fn.scope) []) l.fn.reader r end;
   shorter : length l.reader ≤ length l.fn.reader;
 }
 
@@ -71,7 +73,9 @@ decreases-arguments::members-members l = length l.reader
 
 abbrev pub invariant-arguments::pairs-pairs : goal.invariant-arguments::pairs-pairs
 invariant-arguments::pairs-pairs l = record {
-  goes_on : (r : Result (List (Expr × Expr)) Fault) (end : List Word) → GivesRule (rules.pairs (scope_view l.fn.scope) l.list) l.reader r end → GivesRule (rules.pairs (scope_view l.fn.scope) []) l.fn.reader r end;
+  goes_on : (r : Result (List (Expr × Expr)) Fault) (end : List Word) →
+      GivesRule (rules.pairs (scope_view l.fn.scope) l.list) l.reader r end →
+      GivesRule (rules.pairs (scope_view l.fn.scope) []) l.fn.reader r end;
   shorter : length l.reader ≤ length l.fn.reader;
 }
 
@@ -80,9 +84,13 @@ decreases-arguments::pairs-pairs l = length l.reader
 
 abbrev pub invariant-operators::expression-values : goal.invariant-operators::expression-values
 invariant-operators::expression-values l = record {
-  goes_on : (v : Expr) (mid : List Word) (r : Result Expr Fault) (end : List Word) → GivesRule (rules.expression (scope_view l.fn.scope)) l.reader (Ok v) mid →
-      BehindLast (scope_view l.fn.scope) l.opens.items v mid r end → GivesRule (rules.expression (scope_view l.fn.scope)) l.fn.reader r end;
-  breaks : (e : Fault) (end : List Word) → GivesRule (rules.expression (scope_view l.fn.scope)) l.reader (Err e) end → GivesRule (rules.expression (scope_view l.fn.scope)) l.fn.reader (Err e) end;
+  goes_on : (v : Expr) (mid : List Word) (r : Result Expr Fault) (end : List Word) →
+      GivesRule (rules.expression (scope_view l.fn.scope)) l.reader (Ok v) mid →
+      BehindLast (scope_view l.fn.scope) l.opens.items v mid r end →
+      GivesRule (rules.expression (scope_view l.fn.scope)) l.fn.reader r end;
+  breaks : (e : Fault) (end : List Word) →
+      GivesRule (rules.expression (scope_view l.fn.scope)) l.reader (Err e) end →
+      GivesRule (rules.expression (scope_view l.fn.scope)) l.fn.reader (Err e) end;
   shorter : length l.reader ≤ length l.fn.reader;
 }
 
@@ -91,7 +99,8 @@ decreases-operators::expression-values l = length l.reader
 
 abbrev pub invariant-operators::operators-operands : goal.invariant-operators::operators-operands
 invariant-operators::operators-operands l = record {
-  goes_on : (r : Result Expr Fault) (end : List Word) → GivesRule (rules.more_operators (level_view l.fn.level) (scope_view l.fn.scope) l.x) l.reader r end →
+  goes_on : (r : Result Expr Fault) (end : List Word) →
+      GivesRule (rules.more_operators (level_view l.fn.level) (scope_view l.fn.scope) l.x) l.reader r end →
       GivesRule (rules.operators (level_view l.fn.level) (scope_view l.fn.scope)) l.fn.reader r end;
   shorter : length l.reader < length l.fn.reader;
 }
@@ -101,7 +110,9 @@ decreases-operators::operators-operands l = length l.reader
 
 abbrev pub invariant-primary::postfix-calls : goal.invariant-primary::postfix-calls
 invariant-primary::postfix-calls l = record {
-  goes_on : (r : Result Expr Fault) (end : List Word) → GivesRule (rules.more_postfix (scope_view l.fn.scope) l.x) l.reader r end → GivesRule (rules.postfix (scope_view l.fn.scope)) l.fn.reader r end;
+  goes_on : (r : Result Expr Fault) (end : List Word) →
+      GivesRule (rules.more_postfix (scope_view l.fn.scope) l.x) l.reader r end →
+      GivesRule (rules.postfix (scope_view l.fn.scope)) l.fn.reader r end;
   shorter : length l.reader < length l.fn.reader;
 }
 
@@ -110,7 +121,8 @@ decreases-primary::postfix-calls l = length l.reader
 
 abbrev pub invariant-primary::text_parts-parts : goal.invariant-primary::text_parts-parts
 invariant-primary::text_parts-parts l = record {
-  goes_on : (r : Result (List Part) Fault) (end : List Word) → GivesRule (rules.text_parts (scope_view l.fn.scope) l.fn.is_double l.parts) l.reader r end →
+  goes_on : (r : Result (List Part) Fault) (end : List Word) →
+      GivesRule (rules.text_parts (scope_view l.fn.scope) l.fn.is_double l.parts) l.reader r end →
       GivesRule (rules.text_parts (scope_view l.fn.scope) l.fn.is_double []) l.fn.reader r end;
   shorter : length l.reader ≤ length l.fn.reader;
 }

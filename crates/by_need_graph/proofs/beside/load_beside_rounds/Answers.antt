@@ -24,7 +24,8 @@ load-requires-clause-part c =
     let l : length c.args.table.now.values.items ≡ c.len-count.result = omega (arith, b, n, m, o, p, f) in
     let q : c.all_agree.result ≡ true = search rules in
     let a = rw (c.deref.ensures.value, c.deref-2.ensures.value) at (c.all_agree.ensures.agree q) in
-    part_from c.args.table.now.values.items c.in_ok-known.known.items (known (rules_of c.args.graph.now.bodies.items)) c.len-count.result l a c.in_ok-known.ensures.known
+    part_from c.args.table.now.values.items c.in_ok-known.known.items
+    (known (rules_of c.args.graph.now.bodies.items)) c.len-count.result l a c.in_ok-known.ensures.known
 
 pub returns-then-task-count-clause-refused : goal.returns-then-task-count-clause-refused
 returns-then-task-count-clause-refused c =

@@ -8,4 +8,5 @@ pub questions-preserved : goal.questions-preserved
 questions-preserved c =
     let r = rules_of c.args.graph.now.bodies.items in
     let k : suc c.questions._question ≡ c.questions._question + 1 = omega arith in
-    c.next_task-last.ensures ∙ ap (next r) c.questions.invariant ∙ sym (follow_last r c.questions._question c.args.task) ∙ ap (λ n. follow r n c.args.task) k
+    c.next_task-last.ensures ∙ ap (next r) c.questions.invariant
+    ∙ sym (follow_last r c.questions._question c.args.task) ∙ ap (λ n. follow r n c.args.task) k

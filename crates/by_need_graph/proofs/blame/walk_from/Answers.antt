@@ -9,6 +9,9 @@ questions-preserved c =
     let r = rules_of c.args.graph.now.bodies.items in
     let k : suc c.questions._question ≡ c.questions._question + 1 = omega arith in
     record {
-      last_is = c.next_task-last.ensures ∙ ap (next r) c.questions.invariant.last_is ∙ sym (follow_last r c.questions._question c.args.task) ∙ ap (λ n. follow r n c.args.task) k;
-      way_is = c.in_ok-push.ensures.items ∙ ap (λ ts. ts ++ c.questions.last ∷ []) c.questions.invariant.way_is ∙ ap (λ t. walk r c.questions._question c.args.task ++ t ∷ []) c.questions.invariant.last_is ∙ sym (walk_last r c.questions._question c.args.task) ∙ ap (λ n. walk r n c.args.task) k;
+      last_is = c.next_task-last.ensures ∙ ap (next r) c.questions.invariant.last_is
+          ∙ sym (follow_last r c.questions._question c.args.task) ∙ ap (λ n. follow r n c.args.task) k;
+      way_is = c.in_ok-push.ensures.items ∙ ap (λ ts. ts ++ c.questions.last ∷ []) c.questions.invariant.way_is
+          ∙ ap (λ t. walk r c.questions._question c.args.task ++ t ∷ []) c.questions.invariant.last_is
+          ∙ sym (walk_last r c.questions._question c.args.task) ∙ ap (λ n. walk r n c.args.task) k;
     }

@@ -8,11 +8,14 @@ pub rounds-preserved : goal.rounds-preserved
 rounds-preserved c =
     let bodies = c.args.graph.now.bodies.items in
     let e = c.in_ok-values-2.ensures in
-    let m : length c.in_ok-values-2.values.items ≡ length c.rounds.values.items = rw c.deref.ensures.value at e.length in
+    let m : length c.in_ok-values-2.values.items ≡ length c.rounds.values.items =
+    rw c.deref.ensures.value at e.length in
     let k : suc c.rounds._done ≡ c.rounds._done + 1 = omega arith in
     record {
       length_is = m ∙ c.rounds.invariant.length_is;
-      known = λ t. round_next bodies c.rounds.values.items c.in_ok-values-2.values.items c.rounds._done c.rounds.invariant.length_is c.rounds.invariant.known m (rw c.deref.ensures.value at e.round) t ∙ ap (λ n. round (rules_of bodies) n t) k;
+      known = λ t. round_next bodies c.rounds.values.items c.in_ok-values-2.values.items c.rounds._done
+          c.rounds.invariant.length_is c.rounds.invariant.known m (rw c.deref.ensures.value at e.round) t
+          ∙ ap (λ n. round (rules_of bodies) n t) k;
     }
 
 pub returns-clause-known : goal.returns-clause-known

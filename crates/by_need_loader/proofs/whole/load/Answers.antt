@@ -7,7 +7,14 @@ steps-init g c =
     let r = g.Y.Theory.rules c.args.theory.now in
     let laws = g.Y.Theory.laws c.args.theory.now in
     let J = g.B.Table.at c.args.table.now in
-    record { ready = c.begin-loader.ensures.ready; at = ([], c.begin-loader.ensures.at J c.requires.task c.requires.part); part = c.requires.part; gains = gains_none r c.args.task J }
+    record {
+      ready = c.begin-loader.ensures.ready;
+      at =
+          ([], c.begin-loader.ensures.at J c.requires.task c.requires.part);
+      part = c.requires.part;
+      gains =
+          gains_none r c.args.task J;
+    }
 
 pub steps-smaller-in-Look : goal.steps-smaller-in-Look
 steps-smaller-in-Look g c =
@@ -15,8 +22,10 @@ steps-smaller-in-Look g c =
     let laws = g.Y.Theory.laws c.args.theory.now in
     let J = g.B.Table.at c.args.table.now in
     let K = g.B.Table.at c.steps.table in
-    let s = rw c.in-Look.is at (c.in_ok-asked.ensures c.args.task J K c.steps.invariant.at.0 c.steps.invariant.ready c.steps.invariant.at.1) in
-    let a = c.in_ok-answer-in-Look.ensures c.in-Look.asked c.args.task J K c.steps.invariant.at.0 s.0 c.defined-found.ensures s.1 in
+    let s = rw c.in-Look.is at
+    (c.in_ok-asked.ensures c.args.task J K c.steps.invariant.at.0 c.steps.invariant.ready c.steps.invariant.at.1) in
+    let a = c.in_ok-answer-in-Look.ensures c.in-Look.asked c.args.task J K c.steps.invariant.at.0 s.0
+    c.defined-found.ensures s.1 in
     lt_trans a.2 s.2
 
 pub steps-preserved-in-Look : goal.steps-preserved-in-Look
@@ -25,9 +34,17 @@ steps-preserved-in-Look g c =
     let laws = g.Y.Theory.laws c.args.theory.now in
     let J = g.B.Table.at c.args.table.now in
     let K = g.B.Table.at c.steps.table in
-    let s = rw c.in-Look.is at (c.in_ok-asked.ensures c.args.task J K c.steps.invariant.at.0 c.steps.invariant.ready c.steps.invariant.at.1) in
-    let a = c.in_ok-answer-in-Look.ensures c.in-Look.asked c.args.task J K c.steps.invariant.at.0 s.0 c.defined-found.ensures s.1 in
-    record { ready = a.0; at = (c.steps.invariant.at.0, a.1); part = c.steps.invariant.part; gains = c.steps.invariant.gains }
+    let s = rw c.in-Look.is at
+    (c.in_ok-asked.ensures c.args.task J K c.steps.invariant.at.0 c.steps.invariant.ready c.steps.invariant.at.1) in
+    let a = c.in_ok-answer-in-Look.ensures c.in-Look.asked c.args.task J K c.steps.invariant.at.0 s.0
+    c.defined-found.ensures s.1 in
+    record {
+      ready = a.0;
+      at = (c.steps.invariant.at.0, a.1);
+      part = c.steps.invariant.part;
+      gains =
+          c.steps.invariant.gains;
+    }
 
 pub define-requires : goal.define-requires
 define-requires g c =
@@ -35,7 +52,8 @@ define-requires g c =
     let laws = g.Y.Theory.laws c.args.theory.now in
     let J = g.B.Table.at c.args.table.now in
     let K = g.B.Table.at c.steps.table in
-    let s = rw c.in-Define.is at (c.in_ok-asked.ensures c.args.task J K c.steps.invariant.at.0 c.steps.invariant.ready c.steps.invariant.at.1) in
+    let s = rw c.in-Define.is at
+    (c.in_ok-asked.ensures c.args.task J K c.steps.invariant.at.0 c.steps.invariant.ready c.steps.invariant.at.1) in
     s.1
 
 pub steps-smaller : goal.steps-smaller
@@ -44,7 +62,8 @@ steps-smaller g c =
     let laws = g.Y.Theory.laws c.args.theory.now in
     let J = g.B.Table.at c.args.table.now in
     let K = g.B.Table.at c.steps.table in
-    let s = rw c.in-Define.is at (c.in_ok-asked.ensures c.args.task J K c.steps.invariant.at.0 c.steps.invariant.ready c.steps.invariant.at.1) in
+    let s = rw c.in-Define.is at
+    (c.in_ok-asked.ensures c.args.task J K c.steps.invariant.at.0 c.steps.invariant.ready c.steps.invariant.at.1) in
     let N = g.B.Table.at c.define.new.self in
     let e = c.in_ok-define-in-Define.ensures in
     let x = s.4 N (defines r laws c.args.task J K N c.in-Define.done c.in-Define.value s.1 s.2 s.3 e.new e.old) in
@@ -56,15 +75,18 @@ steps-preserved g c =
     let laws = g.Y.Theory.laws c.args.theory.now in
     let J = g.B.Table.at c.args.table.now in
     let K = g.B.Table.at c.steps.table in
-    let s = rw c.in-Define.is at (c.in_ok-asked.ensures c.args.task J K c.steps.invariant.at.0 c.steps.invariant.ready c.steps.invariant.at.1) in
+    let s = rw c.in-Define.is at
+    (c.in_ok-asked.ensures c.args.task J K c.steps.invariant.at.0 c.steps.invariant.ready c.steps.invariant.at.1) in
     let N = g.B.Table.at c.define.new.self in
     let e = c.in_ok-define-in-Define.ensures in
     let x = s.4 N (defines r laws c.args.task J K N c.in-Define.done c.in-Define.value s.1 s.2 s.3 e.new e.old) in
     record {
       ready = s.0;
       at = (c.steps.invariant.at.0 ++ (c.in-Define.done, c.in-Define.value) ∷ [], x.0);
-      part = defined_part r laws c.args.task J K N c.in-Define.done c.in-Define.value s.1 s.2 s.3 e.new e.old c.steps.invariant.part;
-      gains = defined_gains r laws c.args.task J K N c.in-Define.done c.in-Define.value s.1 s.2 s.3 e.new e.old c.steps.invariant.gains;
+      part = defined_part r laws c.args.task J K N c.in-Define.done c.in-Define.value s.1 s.2 s.3 e.new e.old
+          c.steps.invariant.part;
+      gains = defined_gains r laws c.args.task J K N c.in-Define.done c.in-Define.value s.1 s.2 s.3 e.new e.old
+          c.steps.invariant.gains;
     }
 
 pub returns-in-Done-clause-ends : goal.returns-in-Done-clause-ends
@@ -73,7 +95,8 @@ returns-in-Done-clause-ends g c =
     let laws = g.Y.Theory.laws c.args.theory.now in
     let J = g.B.Table.at c.args.table.now in
     let K = g.B.Table.at c.steps.table in
-    let s = rw c.in-Done.is at (c.in_ok-asked.ensures c.args.task J K c.steps.invariant.at.0 c.steps.invariant.ready c.steps.invariant.at.1) in
+    let s = rw c.in-Done.is at
+    (c.in_ok-asked.ensures c.args.task J K c.steps.invariant.at.0 c.steps.invariant.ready c.steps.invariant.at.1) in
     (s.0, s.1, s.2)
 
 pub returns-in-Done-clause-order : goal.returns-in-Done-clause-order
@@ -82,7 +105,8 @@ returns-in-Done-clause-order g c =
     let laws = g.Y.Theory.laws c.args.theory.now in
     let J = g.B.Table.at c.args.table.now in
     let K = g.B.Table.at c.steps.table in
-    let s = rw c.in-Done.is at (c.in_ok-asked.ensures c.args.task J K c.steps.invariant.at.0 c.steps.invariant.ready c.steps.invariant.at.1) in
+    let s = rw c.in-Done.is at
+    (c.in_ok-asked.ensures c.args.task J K c.steps.invariant.at.0 c.steps.invariant.ready c.steps.invariant.at.1) in
     (c.steps.invariant.at.0, s.3)
 
 pub returns-in-Failed-clause-ends : goal.returns-in-Failed-clause-ends
@@ -91,7 +115,8 @@ returns-in-Failed-clause-ends g c =
     let laws = g.Y.Theory.laws c.args.theory.now in
     let J = g.B.Table.at c.args.table.now in
     let K = g.B.Table.at c.steps.table in
-    let s = rw c.in-Failed.is at (c.in_ok-asked.ensures c.args.task J K c.steps.invariant.at.0 c.steps.invariant.ready c.steps.invariant.at.1) in
+    let s = rw c.in-Failed.is at
+    (c.in_ok-asked.ensures c.args.task J K c.steps.invariant.at.0 c.steps.invariant.ready c.steps.invariant.at.1) in
     (s.0, s.1)
 
 pub returns-in-Failed-clause-order : goal.returns-in-Failed-clause-order
@@ -100,5 +125,6 @@ returns-in-Failed-clause-order g c =
     let laws = g.Y.Theory.laws c.args.theory.now in
     let J = g.B.Table.at c.args.table.now in
     let K = g.B.Table.at c.steps.table in
-    let s = rw c.in-Failed.is at (c.in_ok-asked.ensures c.args.task J K c.steps.invariant.at.0 c.steps.invariant.ready c.steps.invariant.at.1) in
+    let s = rw c.in-Failed.is at
+    (c.in_ok-asked.ensures c.args.task J K c.steps.invariant.at.0 c.steps.invariant.ready c.steps.invariant.at.1) in
     (c.steps.invariant.at.0, s.2)

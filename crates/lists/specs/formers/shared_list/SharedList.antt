@@ -71,12 +71,14 @@ module _ (X : Type 0) where
   abbrev with_held : Global → Option (List X) → Inside X
   with_held g o = record { held = o; alloc = g }
 
-  keeps : (g : Global) (o : Option (List X)) → held (list this) X (view X (with_held g o)) ≡ held fields X (with_held g o)
+  keeps : (g : Global) (o : Option (List X)) → held (list this) X (view X (with_held g o))
+      ≡ held fields X (with_held g o)
   keeps g None = refl
   keeps g (Some all) = refl
 
   module _ (Y : Type 0) (h : X → Y) where
-    natural : (g : Global) (o : Option (List X)) → view Y (fields.map X Y h (with_held g o)) ≡ (list this).map X Y h (view X (with_held g o))
+    natural : (g : Global) (o : Option (List X)) → view Y (fields.map X Y h (with_held g o))
+        ≡ (list this).map X Y h (view X (with_held g o))
     natural g None = refl
     natural g (Some all) = refl
 
@@ -93,19 +95,28 @@ module _ (R S : RattleType) (h : R.Denot → S.Denot) where
 
   variant : (o : Option (List R.Denot))
       → (option.enum (shared_row S)).as_values (mapped h o)
-      ≡ eachs (option.enum (shared_row R)).parts (option.enum (shared_row S)).parts (tt, ((over_list, tt), tt)) ((option.enum (shared_row R)).as_values o)
+      ≡ eachs (option.enum (shared_row R)).parts (option.enum (shared_row S)).parts (tt, ((over_list, tt), tt))
+      ((option.enum (shared_row R)).as_values o)
   variant None = refl
   variant (Some all) = refl
 
   held_places : Alike R S h → Alike (option.the_row (shared_row R)) (option.the_row (shared_row S)) (mapped h)
-  held_places a = enum_places (option.enum (shared_row R)) (option.enum (shared_row S)) (tt, ((over_list, tt), tt)) (mapped h) variant refl
-      (tt, ((laid _ _ _ (shared.the_places (it.the_row R) (it.the_row S) over_list (items.the_places R S h a)), tt), tt))
+  held_places a = enum_places (option.enum (shared_row R)) (option.enum (shared_row S)) (tt, ((over_list, tt), tt))
+      (mapped h) variant refl (
+        tt,
+        (
+          (laid _ _ _ (shared.the_places (it.the_row R) (it.the_row S) over_list (items.the_places R S h a)), tt),
+          tt,
+        ),
+      )
 
   pub the_places : Alike R S h → Alike (C.the_row R) (C.the_row S) ((the_former this).map R.Denot S.Denot h)
-  the_places a = view_places fields (list this) view (λ X Y k u. natural X Y k u.alloc u.held) (λ X u. keeps X u.alloc u.held) R.Denot S.Denot h (C.the_row R).coded (C.the_row S).coded
+  the_places a = view_places fields (list this) view (λ X Y k u. natural X Y k u.alloc u.held)
+      (λ X u. keeps X u.alloc u.held) R.Denot S.Denot h (C.the_row R).coded (C.the_row S).coded
       (invariant R.Denot) (invariant S.Denot) (λ u p q. refl) (λ u p q. refl) (λ u e. tt) (λ u e. tt)
       (over (I.the_row R)) (over (I.the_row S))
-      (struct_places (I.the_type R) (I.the_type S) (mapped h, (λ g. g, tt)) _ (λ d i. (is_mapped R.Denot S.Denot h d.alloc d.held i, (d.alloc, tt))) refl
+      (struct_places (I.the_type R) (I.the_type S) (mapped h, (λ g. g, tt)) _
+      (λ d i. (is_mapped R.Denot S.Denot h d.alloc d.held i, (d.alloc, tt))) refl
       (laid _ _ _ (held_places a), (stays heap.the_row, tt)))
 
   pub the_codes_placed : Recodes R S h → Recodes (C.the_row R) (C.the_row S) ((the_former this).map R.Denot S.Denot h)

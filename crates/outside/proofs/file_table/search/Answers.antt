@@ -6,4 +6,5 @@ use Rattle.outside.proofs.file_table.search.Goals as goal
 -- the closure compares a file's path with the path
 pub returns-clause-position : goal.returns-clause-position
 returns-clause-position c =
-    c.binary_search_by.ensures.position (λ f. order f.path c.args.path.now) (always_returns_same _ _ _ (λ a r g called. (search rules, search rules)))
+    c.binary_search_by.ensures.position (λ f. order f.path c.args.path.now)
+    (always_returns_same _ _ _ (λ a r g called. (search rules, search rules)))

@@ -5,7 +5,9 @@ use Rattle.outside.proofs.writing.write_all.Goals as goal
 
 pub pieces-preserved : goal.pieces-preserved
 pieces-preserved g c =
-    let fits : c.in-Took.count ≤ length (take (length c.args.bytes.now - c.pieces.sent) (drop c.pieces.sent c.args.bytes.now)) = c.in-Took.ensures.piece.1 in
+    let fits : c.in-Took.count ≤ length
+    (take (length c.args.bytes.now - c.pieces.sent) (drop c.pieces.sent c.args.bytes.now)) =
+    c.in-Took.ensures.piece.1 in
     let room : c.in-Took.count ≤ length c.args.bytes.now - c.pieces.sent = simp (take_rest, length-drop) at fits in
     record {
       within = omega arith;

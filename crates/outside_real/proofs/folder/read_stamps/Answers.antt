@@ -5,4 +5,5 @@ use Rattle.outside_real.proofs.folder.read_stamps.Goals as goal
 
 pub returns : goal.returns
 returns g c =
-    stamps_watched c.in_ok-snapshot.snapshot.files c.in_ok-copy_stamps.field-0 (c.in_ok-copy_stamps.ensures ∙ ap stamps_of c.as_slice.ensures) c.in_ok-snapshot.ensures
+    stamps_watched c.in_ok-snapshot.snapshot.files c.in_ok-copy_stamps.field-0 (c.in_ok-copy_stamps.ensures
+    ∙ ap stamps_of c.as_slice.ensures) c.in_ok-snapshot.ensures

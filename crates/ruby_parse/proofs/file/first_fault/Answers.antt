@@ -6,7 +6,10 @@ use Rattle.ruby_parse.proofs.Stopping.{lexer_alone}
 use Rattle.ruby_parse.proofs.file.first_fault.Goals as goal
 
 pub returns-in-Ok : goal.returns-in-Ok
-returns-in-Ok c = λ bytes tokens l g. subst (IsFaultOf bytes) (sym c.of_lexer.ensures) (lexer_alone bytes tokens c.args.lexical.kind c.args.lexical.at c.in-Ok._tree l (subst (GivesTree (words_of bytes tokens) c.args.lexical.at) c.in-Ok.is g))
+returns-in-Ok c = λ bytes tokens l g. subst (IsFaultOf bytes) (sym c.of_lexer.ensures)
+    (lexer_alone bytes tokens c.args.lexical.kind c.args.lexical.at c.in-Ok._tree l
+    (subst (GivesTree (words_of bytes tokens) c.args.lexical.at) c.in-Ok.is g))
 
 pub returns-in-Err : goal.returns-in-Err
-returns-in-Err c = λ bytes tokens l g. c.earlier.ensures bytes tokens l (subst (GivesTree (words_of bytes tokens) c.args.lexical.at) c.in-Err.is g)
+returns-in-Err c = λ bytes tokens l g. c.earlier.ensures bytes tokens l
+    (subst (GivesTree (words_of bytes tokens) c.args.lexical.at) c.in-Err.is g)

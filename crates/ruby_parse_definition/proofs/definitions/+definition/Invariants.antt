@@ -22,7 +22,8 @@ decreases-class l = 4 * l.levels + 3
 
 abbrev pub invariant-definitions-lines : goal.invariant-definitions-lines
 invariant-definitions-lines l = record {
-  goes_on : Leads (only (rules.definitions (body_view l.place) [])) l.fn.marks l.fn.reader (only (rules.definitions (body_view l.place) l.defs)) l.marks l.reader;
+  goes_on : Leads (only (rules.definitions (body_view l.place) [])) l.fn.marks l.fn.reader
+      (only (rules.definitions (body_view l.place) l.defs)) l.marks l.reader;
   shorter : length l.reader ≤ length l.fn.reader;
 }
 

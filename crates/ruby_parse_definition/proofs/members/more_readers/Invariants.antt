@@ -6,7 +6,8 @@ use Rattle.ruby_parse_definition.proofs.members.more_readers.Given as goal
 
 abbrev pub invariant-names : goal.invariant-names
 invariant-names l = record {
-  goes_on : Leads (only (rules.more_readers l.place.path.now l.fn.first)) l.fn.marks l.fn.reader (only (rules.more_readers l.place.path.now l.names)) l.marks l.reader;
+  goes_on : Leads (only (rules.more_readers l.place.path.now l.fn.first)) l.fn.marks l.fn.reader
+      (only (rules.more_readers l.place.path.now l.names)) l.marks l.reader;
   shorter : length l.reader ≤ length l.fn.reader;
 }
 

@@ -6,24 +6,54 @@ use Rattle.ruby_parse_cursor.proofs.CodeLaws.{code_is}
 use Rattle.ruby_parse_steps.specs.Gives.{GivesRule}
 use Rattle.ruby_parse_steps.proofs.PrimaryLaws.{word_reads, primary_none, no_primary}
 use Rattle.ruby_parse_expression.proofs.primary.reserved.Goals as goal
-use Rattle.ruby_parse_expression.proofs.primary.reserved.Goals.{in_default-via-in-Some+in_default-1, in_default-via-in-None-1}
+use Rattle.ruby_parse_expression.proofs.primary.reserved.Goals.{in_default-via-in-Some+in_default-1}
+use Rattle.ruby_parse_expression.proofs.primary.reserved.Goals.{in_default-via-in-None-1}
 
 pub returns-in-Some-eq12-cases-clause-reads : goal.returns-in-Some-eq12-cases-clause-reads
-returns-in-Some-eq12-cases-clause-reads c = λ here. subst (λ r. GivesRule (primary here) c.args.reader.now r c.passed.new.reader) (sym c.passed.ensures.value) (word_reads here 12 expr.Nil c.args.reader.now c.passed.new.reader (code_is _ 12 (sym c.code.ensures ∙ (cc))) refl refl c.passed.ensures.passed)
+returns-in-Some-eq12-cases-clause-reads c = λ here.
+    subst (λ r. GivesRule (primary here) c.args.reader.now r c.passed.new.reader) (sym c.passed.ensures.value)
+    (word_reads here 12 expr.Nil c.args.reader.now c.passed.new.reader (code_is _ 12 (sym c.code.ensures ∙ (cc)))
+    refl refl c.passed.ensures.passed)
 
 pub returns-in-Some-eq13-cases-clause-reads : goal.returns-in-Some-eq13-cases-clause-reads
-returns-in-Some-eq13-cases-clause-reads c = λ here. subst (λ r. GivesRule (primary here) c.args.reader.now r c.passed-2.new.reader) (sym c.passed-2.ensures.value) (word_reads here 13 expr.True c.args.reader.now c.passed-2.new.reader (code_is _ 13 (sym c.code.ensures ∙ (cc))) refl refl c.passed-2.ensures.passed)
+returns-in-Some-eq13-cases-clause-reads c = λ here.
+    subst (λ r. GivesRule (primary here) c.args.reader.now r c.passed-2.new.reader) (sym c.passed-2.ensures.value)
+    (word_reads here 13 expr.True c.args.reader.now c.passed-2.new.reader (code_is _ 13 (sym c.code.ensures ∙ (cc)))
+    refl refl c.passed-2.ensures.passed)
 
 pub returns-in-Some-eq14-cases-clause-reads : goal.returns-in-Some-eq14-cases-clause-reads
-returns-in-Some-eq14-cases-clause-reads c = λ here. subst (λ r. GivesRule (primary here) c.args.reader.now r c.passed-3.new.reader) (sym c.passed-3.ensures.value) (word_reads here 14 expr.False c.args.reader.now c.passed-3.new.reader (code_is _ 14 (sym c.code.ensures ∙ (cc))) refl refl c.passed-3.ensures.passed)
+returns-in-Some-eq14-cases-clause-reads c = λ here.
+    subst (λ r. GivesRule (primary here) c.args.reader.now r c.passed-3.new.reader) (sym c.passed-3.ensures.value)
+    (word_reads here 14 expr.False c.args.reader.now c.passed-3.new.reader (code_is _ 14 (sym c.code.ensures ∙ (cc)))
+    refl refl c.passed-3.ensures.passed)
 
 pub returns-in-Some-eq11-cases-clause-reads : goal.returns-in-Some-eq11-cases-clause-reads
-returns-in-Some-eq11-cases-clause-reads c = λ here. subst (λ r. GivesRule (primary here) c.args.reader.now r c.passed-4.new.reader) (sym c.passed-4.ensures.value) (word_reads here 11 expr.SelfRef c.args.reader.now c.passed-4.new.reader (code_is _ 11 (sym c.code.ensures ∙ (cc))) refl refl c.passed-4.ensures.passed)
+returns-in-Some-eq11-cases-clause-reads c = λ here.
+    subst (λ r. GivesRule (primary here) c.args.reader.now r c.passed-4.new.reader) (sym c.passed-4.ensures.value)
+    (word_reads here 11 expr.SelfRef c.args.reader.now c.passed-4.new.reader
+    (code_is _ 11 (sym c.code.ensures ∙ (cc))) refl refl c.passed-4.ensures.passed)
 
 -- the code is none of the four
 pub returns-in_default-clause-reads : goal.returns-in_default-clause-reads
-returns-in_default-clause-reads c = λ here. no_primary here _ c.args.reader.now refl (primary_none here _ c.requires.nests c.requires.no_number c.requires.no_symbol c.requires.no_variable
-    (λ e. let r : c.code.result ≡ Some 12 = c.code.ensures ∙ ap code_view e in elim c.in_default.branch [ in_default-via-in-Some+in_default-1 w ↦ search rules | in_default-via-in-None-1 w ↦ search rules ])
-    (λ e. let r : c.code.result ≡ Some 13 = c.code.ensures ∙ ap code_view e in elim c.in_default.branch [ in_default-via-in-Some+in_default-1 w ↦ search rules | in_default-via-in-None-1 w ↦ search rules ])
-    (λ e. let r : c.code.result ≡ Some 14 = c.code.ensures ∙ ap code_view e in elim c.in_default.branch [ in_default-via-in-Some+in_default-1 w ↦ search rules | in_default-via-in-None-1 w ↦ search rules ])
-    (λ e. let r : c.code.result ≡ Some 11 = c.code.ensures ∙ ap code_view e in elim c.in_default.branch [ in_default-via-in-Some+in_default-1 w ↦ search rules | in_default-via-in-None-1 w ↦ search rules ]))
+returns-in_default-clause-reads c = λ here. no_primary here _ c.args.reader.now refl
+    (primary_none here _ c.requires.nests c.requires.no_number c.requires.no_symbol c.requires.no_variable
+    (λ e. let r : c.code.result ≡ Some 12 = c.code.ensures ∙ ap code_view e in
+    elim c.in_default.branch [
+      | in_default-via-in-Some+in_default-1 w ↦ search rules
+      | in_default-via-in-None-1 w ↦ search rules
+    ])
+    (λ e. let r : c.code.result ≡ Some 13 = c.code.ensures ∙ ap code_view e in
+    elim c.in_default.branch [
+      | in_default-via-in-Some+in_default-1 w ↦ search rules
+      | in_default-via-in-None-1 w ↦ search rules
+    ])
+    (λ e. let r : c.code.result ≡ Some 14 = c.code.ensures ∙ ap code_view e in
+    elim c.in_default.branch [
+      | in_default-via-in-Some+in_default-1 w ↦ search rules
+      | in_default-via-in-None-1 w ↦ search rules
+    ])
+    (λ e. let r : c.code.result ≡ Some 11 = c.code.ensures ∙ ap code_view e in
+    elim c.in_default.branch [
+      | in_default-via-in-Some+in_default-1 w ↦ search rules
+      | in_default-via-in-None-1 w ↦ search rules
+    ]))

@@ -7,8 +7,13 @@ use Rattle.ruby_parse_statement.proofs.simple.simple.Goals as goal
 
 pub returns-in-Some-eq10-cases-clause-reads : goal.returns-in-Some-eq10-cases-clause-reads
 returns-in-Some-eq10-cases-clause-reads c =
-    simple_return (around_view c.args.body c.args.locals.now) c.args.reader.now c.returned.new.reader (known_as c.args.locals.now c.returned.result) (sees_code c.args.reader.now 10 (sym c.code.ensures ∙ (cc))) c.returned.ensures.reads
+    simple_return (around_view c.args.body c.args.locals.now) c.args.reader.now c.returned.new.reader
+    (known_as c.args.locals.now c.returned.result) (sees_code c.args.reader.now 10 (sym c.code.ensures ∙ (cc)))
+    c.returned.ensures.reads
 
 pub returns-in-Some-eq15-cases-clause-reads : goal.returns-in-Some-eq15-cases-clause-reads
 returns-in-Some-eq15-cases-clause-reads c =
-    simple_raise (around_view c.args.body c.args.locals.now) c.args.reader.now c.raised.new.reader (known_as c.args.locals.now c.raised.result) (other_code c.args.reader.now 15 10 (sym c.code.ensures ∙ (cc)) refl) (sees_code c.args.reader.now 15 (sym c.code.ensures ∙ (cc))) c.raised.ensures.reads
+    simple_raise (around_view c.args.body c.args.locals.now) c.args.reader.now c.raised.new.reader
+    (known_as c.args.locals.now c.raised.result)
+    (other_code c.args.reader.now 15 10 (sym c.code.ensures ∙ (cc)) refl)
+    (sees_code c.args.reader.now 15 (sym c.code.ensures ∙ (cc))) c.raised.ensures.reads

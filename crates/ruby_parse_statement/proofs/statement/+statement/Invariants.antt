@@ -28,7 +28,9 @@ decreases-branches l = 6 * l.body.levels + 5
 
 abbrev pub invariant-statements-lines : goal.invariant-statements-lines
 invariant-statements-lines l = record {
-  goes_on : (r : Result Block Fault) (end : List Word) → GivesRule (rules.statements (around_view l.body l.locals) l.statements) l.reader r end → GivesRule (rules.statements (around_view l.body l.fn.locals) []) l.fn.reader r end;
+  goes_on : (r : Result Block Fault) (end : List Word) →
+      GivesRule (rules.statements (around_view l.body l.locals) l.statements) l.reader r end →
+      GivesRule (rules.statements (around_view l.body l.fn.locals) []) l.fn.reader r end;
   shorter : length l.reader ≤ length l.fn.reader;
 }
 
@@ -37,7 +39,9 @@ decreases-statements-lines l = length l.reader
 
 abbrev pub invariant-arms-further : goal.invariant-arms-further
 invariant-arms-further l = record {
-  goes_on : (r : Result Known Fault) (end : List Word) → GivesRest (around_view l.body l.locals) l.is_unless l.list l.closed l.reader r end → Gives (arm_then (around_view l.body l.fn.locals) l.is_unless l.fn.list) l.fn.reader r end;
+  goes_on : (r : Result Known Fault) (end : List Word) →
+      GivesRest (around_view l.body l.locals) l.is_unless l.list l.closed l.reader r end →
+      Gives (arm_then (around_view l.body l.fn.locals) l.is_unless l.fn.list) l.fn.reader r end;
   shorter : length l.reader ≤ length l.fn.reader;
 }
 

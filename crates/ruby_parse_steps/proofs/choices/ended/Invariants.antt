@@ -8,7 +8,9 @@ use Rattle.ruby_parse_steps.proofs.choices.ended.Given as goal
 
 abbrev pub invariant-opens : goal.invariant-opens
 invariant-opens l = record {
-  goes_on : (r : Result Expr Fault) (end : List Word) → BehindLast (scope_view l.fn.scope) l.opens.items l.value l.reader r end → BehindLast (scope_view l.fn.scope) l.fn.opens.items l.fn.value l.fn.reader r end;
+  goes_on : (r : Result Expr Fault) (end : List Word) →
+      BehindLast (scope_view l.fn.scope) l.opens.items l.value l.reader r end →
+      BehindLast (scope_view l.fn.scope) l.fn.opens.items l.fn.value l.fn.reader r end;
   shorter : length l.reader ≤ length l.fn.reader;
 }
 

@@ -9,7 +9,9 @@ use Rattle.ruby_parse_steps.proofs.paths.path_rest.Given as goal
 
 abbrev pub invariant-segments : goal.invariant-segments
 invariant-segments l = record {
-  goes_on : (ending : Option Mark) (ms : List Mark) (o : Outcome ruby some_names) → Comes (only (rules.path_rest true ending l.path)) ms l.reader o → Comes (only (rules.path_rest true ending l.fn.first)) ms l.fn.reader o;
+  goes_on : (ending : Option Mark) (ms : List Mark) (o : Outcome ruby some_names) →
+      Comes (only (rules.path_rest true ending l.path)) ms l.reader o →
+      Comes (only (rules.path_rest true ending l.fn.first)) ms l.fn.reader o;
   shorter : length l.reader ≤ length l.fn.reader;
 }
 

@@ -11,16 +11,19 @@ use Rattle.ruby_print.proofs.expression.+expression.Given as goal
 
 abbrev pub invariant-push_expression-pieces : goal.invariant-push_expression-pieces
 invariant-push_expression-pieces l =
-    (l.written.items ++ pending_text l.pending.items ≡ l.fn.written.items ++ expression l.fn.expr l.fn.inside) × (depth l.pending.items ≤ size-Expr l.fn.expr)
+    (l.written.items ++ pending_text l.pending.items ≡ l.fn.written.items ++ expression l.fn.expr l.fn.inside)
+    × (depth l.pending.items ≤ size-Expr l.fn.expr)
 
 abbrev pub decreases-push_expression-pieces : goal.decreases-push_expression-pieces
 decreases-push_expression-pieces l = steps l.pending.items
 
 abbrev pub invariant-push_members-members : goal.invariant-push_members-members
-invariant-push_members-members l = (l.first ≡ is_nil (take l.item-index l.items)) × (l.written.items ≡ l.initial.written.items ++ joined (map inner (take l.item-index l.items)))
+invariant-push_members-members l = (l.first ≡ is_nil (take l.item-index l.items))
+    × (l.written.items ≡ l.initial.written.items ++ joined (map inner (take l.item-index l.items)))
 
 abbrev pub invariant-push_pairs-pairs : goal.invariant-push_pairs-pairs
-invariant-push_pairs-pairs l = (l.first ≡ is_nil (take l.key-index l.pairs)) × (l.written.items ≡ l.initial.written.items ++ joined (map inner_pair (take l.key-index l.pairs)))
+invariant-push_pairs-pairs l = (l.first ≡ is_nil (take l.key-index l.pairs))
+    × (l.written.items ≡ l.initial.written.items ++ joined (map inner_pair (take l.key-index l.pairs)))
 
 abbrev pub invariant-push_parts-parts : goal.invariant-push_parts-parts
 invariant-push_parts-parts l = l.written.items ≡ l.initial.written.items ++ flat_map part (take l.part-index l.parts)

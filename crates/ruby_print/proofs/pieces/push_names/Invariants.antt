@@ -4,4 +4,5 @@ use Rattle.ruby_print.proofs.Joins.{is_nil}
 use Rattle.ruby_print.proofs.pieces.push_names.Given as goal
 
 abbrev pub invariant-names : goal.invariant-names
-invariant-names l = (l.first ≡ is_nil (take l.name-index l.names)) × (l.written.items ≡ l.initial.written.items ++ joined (take l.name-index l.names))
+invariant-names l = (l.first ≡ is_nil (take l.name-index l.names))
+    × (l.written.items ≡ l.initial.written.items ++ joined (take l.name-index l.names))

@@ -7,16 +7,21 @@ use Rattle.ruby_print.proofs.Joins.{is_nil}
 use Rattle.ruby_print.proofs.statement.+statement.Given as goal
 
 abbrev pub invariant-push_statements-statements : goal.invariant-push_statements-statements
-invariant-push_statements-statements l = l.written.items ≡ l.initial.written.items ++ statement_lines l.indent (take l.statement-index l.statements)
+invariant-push_statements-statements l = l.written.items ≡ l.initial.written.items ++ statement_lines l.indent
+    (take l.statement-index l.statements)
 
 abbrev pub invariant-push_in_row-statements : goal.invariant-push_in_row-statements
-invariant-push_in_row-statements l = l.written.items ≡ l.initial.written.items ++ flat_map (λ x. statement x l.indent) (take l.statement-index l.statements)
+invariant-push_in_row-statements l = l.written.items ≡ l.initial.written.items ++ flat_map
+    (λ x. statement x l.indent) (take l.statement-index l.statements)
 
 abbrev pub invariant-push_behind-arms : goal.invariant-push_behind-arms
-invariant-push_behind-arms l = l.written.items ≡ l.initial.written.items ++ flat_map (statements_behind l.indent) (take l.condition-index l.arms)
+invariant-push_behind-arms l = l.written.items ≡ l.initial.written.items ++ flat_map (statements_behind l.indent)
+    (take l.condition-index l.arms)
 
 abbrev pub invariant-push_arms-arms : goal.invariant-push_arms-arms
-invariant-push_arms-arms l = (l.first ≡ is_nil (take l.condition-index l.arms)) × (l.written.items ≡ l.initial.written.items ++ statement_arms l.indent (codes "if ") (take l.condition-index l.arms))
+invariant-push_arms-arms l = (l.first ≡ is_nil (take l.condition-index l.arms))
+    × (l.written.items ≡ l.initial.written.items ++ statement_arms l.indent (codes "if ")
+    (take l.condition-index l.arms))
 
 abbrev pub decreases-push_statement : goal.decreases-push_statement
 decreases-push_statement l = 8 * size-Stmt l.statement.now

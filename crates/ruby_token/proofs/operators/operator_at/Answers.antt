@@ -9,4 +9,6 @@ returns-clause-exact c = c.first_in.ensures.exact
 
 pub returns-clause-within : goal.returns-clause-within
 unfolding operator_at
-returns-clause-within c = both _ _ (subst (λ o. IfSome o (λ f. 0 < f.1)) (sym c.first_in.ensures.exact) (operator_positive c.args.bytes.now)) c.first_in.ensures.within
+returns-clause-within c =
+    both _ _ (subst (λ o. IfSome o (λ f. 0 < f.1)) (sym c.first_in.ensures.exact)
+    (operator_positive c.args.bytes.now)) c.first_in.ensures.within

@@ -3,4 +3,5 @@ use Rattle.ruby_token.specs.State.{is_one_of}
 use Rattle.ruby_token.proofs.state.is_one_of.Given as goal
 
 abbrev pub invariant-loop-word : goal.invariant-loop-word
-invariant-loop-word l = is_one_of (map (λ w. w.now) (drop l.word-index l.words)) l.text ≡ is_one_of (map (λ w. w.now) l.words) l.text
+invariant-loop-word l = is_one_of (map (λ w. w.now) (drop l.word-index l.words)) l.text
+    ≡ is_one_of (map (λ w. w.now) l.words) l.text

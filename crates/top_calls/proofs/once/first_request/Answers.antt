@@ -7,10 +7,14 @@ use Rattle.top_calls.proofs.once.first_request.Goals as goal
 
 pub returns-in-Get-clause-found : goal.returns-in-Get-clause-found
 returns-in-Get-clause-found c =
-    let P : CommandName → Type 0 = λ name. IfSome c.first_get.result (λ (t : Target). IsFirstGet (name_text name ∷ c.args.command.now.arguments.now) t.controller.now t.action.now) in
+    let P : CommandName → Type 0 = λ name.
+    IfSome c.first_get.result
+    (λ (t : Target). IsFirstGet (name_text name ∷ c.args.command.now.arguments.now) t.controller.now
+    t.action.now) in
     subst P (sym c.in-Get.is) c.first_get.ensures.found
 
 pub returns-in-Get-clause-none : goal.returns-in-Get-clause-none
 returns-in-Get-clause-none c =
-    let P : CommandName → Type 0 = λ name. IfNone c.first_get.result ((controller action : List ℕ) → ¬ (IsFirstGet (name_text name ∷ c.args.command.now.arguments.now) controller action)) in
+    let P : CommandName → Type 0 = λ name. IfNone c.first_get.result ((controller action : List ℕ) →
+    ¬ (IsFirstGet (name_text name ∷ c.args.command.now.arguments.now) controller action)) in
     subst P (sym c.in-Get.is) c.first_get.ensures.none

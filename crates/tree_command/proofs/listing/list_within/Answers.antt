@@ -8,4 +8,5 @@ read_configuration-requires c = rw c.as_slice-files.ensures (small_files c.args.
 pub returns-clause-fault : goal.returns-clause-fault
 returns-clause-fault c =
     let configured = rw c.as_slice-files.ensures at c.in_ok-config.ensures.config in
-    rw c.from.ensures (fault_told c.args.snapshot.now.files c.in_ok-config.config c.in-Err.fault c.requires configured c.in-Err.ensures.fault)
+    rw c.from.ensures (fault_told c.args.snapshot.now.files c.in_ok-config.config c.in-Err.fault c.requires
+    configured c.in-Err.ensures.fault)

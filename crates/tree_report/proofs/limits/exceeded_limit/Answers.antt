@@ -8,5 +8,9 @@ use Rattle.tree_report.proofs.limits.exceeded_limit.Goals as goal
 pub returns-clause-within : goal.returns-clause-within
 returns-clause-within c =
     let few : length c.args.files.now ≤ 4096 = grind (arith, common_steps) in
-    let small : total_bytes c.args.files.now ≤ 4194304 = grind (arith, common_steps) in
-    (λ e. cc, λ within. absurd (exceeded_is_over c.args.files.now Path c.in_ok-length.length (few, small, c.in_ok-length.ensures.found) within))
+    let small : total_bytes c.args.files.now ≤ 4194304 = grind (arith, common_steps) in (
+      λ e. cc,
+      λ within. absurd
+          (exceeded_is_over c.args.files.now Path c.in_ok-length.length (few, small, c.in_ok-length.ensures.found)
+          within),
+    )

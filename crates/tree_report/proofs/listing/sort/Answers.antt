@@ -6,5 +6,7 @@ use Rattle.tree_report.proofs.listing.sort.Goals as goal
 pub returns : goal.returns
 returns c = record {
   same = c.in_ok-sort_by.ensures.permutation;
-  ordered = sorted_is_ordered _ (c.in_ok-sort_by.ensures.sorted comes_before comes_before-is-order (answers_always _ _ _ (λ f a r g h. search rules)));
+  ordered = sorted_is_ordered _
+      (c.in_ok-sort_by.ensures.sorted comes_before comes_before-is-order
+      (answers_always _ _ _ (λ f a r g h. search rules)));
 }

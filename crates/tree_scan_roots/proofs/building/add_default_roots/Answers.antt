@@ -11,4 +11,5 @@ add_root-requires-clause-other c =
     let key = c.in-Some.directory.now in
     let so_far = subst (λ left. IsSoFar lines keys roots left) c.in-Some.ensures.steps c.directories.invariant.so_far in
     let path : c.in_ok-path.path ≡ key.items = c.in_ok-path.ensures ∙ c.as_slice.ensures.value in
-    λ has. so_far_other lines keys roots key c.next.new.self c.iter-directory-items.ensures.ordered so_far (subst (λ p. Contains (root_paths roots) p) path has)
+    λ has. so_far_other lines keys roots key c.next.new.self c.iter-directory-items.ensures.ordered so_far
+    (subst (λ p. Contains (root_paths roots) p) path has)

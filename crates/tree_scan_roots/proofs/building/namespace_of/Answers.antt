@@ -7,11 +7,13 @@ use Rattle.tree_scan_roots.proofs.RootLaws.{line_within, namespace_numbered, nam
 use Rattle.tree_scan_roots.proofs.building.namespace_of.Goals as goal
 
 pub bounds-lines-number : goal.bounds-lines-number
-bounds-lines-number c = line_within c.args.lines.now c.args.numbers.now c.requires c.args.directory.now c.in-Some.number (sym c.number_of.ensures ∙ c.in-Some.is)
+bounds-lines-number c = line_within c.args.lines.now c.args.numbers.now c.requires c.args.directory.now
+    c.in-Some.number (sym c.number_of.ensures ∙ c.in-Some.is)
 
 pub returns-in-Some : goal.returns-in-Some
 returns-in-Some c =
-    let is = namespace_numbered c.args.lines.now c.args.numbers.now c.requires c.args.directory.now c.in-Some.number (sym c.number_of.ensures ∙ c.in-Some.is) c.index-lines-number.result in
+    let is = namespace_numbered c.args.lines.now c.args.numbers.now c.requires c.args.directory.now c.in-Some.number
+    (sym c.number_of.ensures ∙ c.in-Some.is) c.index-lines-number.result in
     IfOk-weaker c.from_slice.result
     (λ names. names ≡ c.as_slice.result.now)
     (λ names. names ≡ namespace_of c.args.lines.now c.args.directory.now)
@@ -21,4 +23,5 @@ returns-in-Some c =
 pub returns-in-None : goal.returns-in-None
 returns-in-None c =
     let none : number_of c.args.numbers.now c.args.directory.now ≡ None = sym c.number_of.ensures ∙ c.in-None.is in
-    c.new.ensures ∙ sym (namespace_nowhere c.args.lines.now c.args.directory.now (no_number (named c.args.lines.now) c.args.numbers.now c.requires c.args.directory.now none))
+    c.new.ensures ∙ sym (namespace_nowhere c.args.lines.now c.args.directory.now
+    (no_number (named c.args.lines.now) c.args.numbers.now c.requires c.args.directory.now none))

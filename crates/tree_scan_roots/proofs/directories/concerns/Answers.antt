@@ -5,7 +5,8 @@ use Rattle.tree_scan_roots.proofs.directories.concerns.Goals as goal
 pub returns-then-begins_in_concerns : goal.returns-then-begins_in_concerns
 returns-then-begins_in_concerns c =
     let found = c.in_ok-name.ensures.found in
-    concerns_is c.args.path.now c.in_ok-name.name.now c.in_ok-name.below.now found.0 found.1 (c.begins_in_concerns.ensures.0 c.if-begins_in_concerns.true)
+    concerns_is c.args.path.now c.in_ok-name.name.now c.in_ok-name.below.now found.0 found.1
+    (c.begins_in_concerns.ensures.0 c.if-begins_in_concerns.true)
 
 pub returns-else-begins_in_concerns : goal.returns-else-begins_in_concerns
 returns-else-begins_in_concerns c =

@@ -5,4 +5,5 @@ use Rattle.tree_scan_roots.specs.Keys.{Has}
 use Rattle.tree_scan_roots.proofs.directories.default_roots.Given as goal
 
 abbrev pub invariant-files : goal.invariant-files
-invariant-files l = (directory : List ℕ) → Has l.found directory ↔ IsDefaultRoot (paths_of (take l.file-index l.files)) directory
+invariant-files l = (directory : List ℕ) →
+    Has l.found directory ↔ IsDefaultRoot (paths_of (take l.file-index l.files)) directory

@@ -5,7 +5,8 @@ use Rattle.tree_scan_roots.proofs.directories.top_root.Goals as goal
 pub returns-then-is_root_name : goal.returns-then-is_root_name
 returns-then-is_root_name c =
     let found = c.in_ok-name.ensures.found in
-    top_is c.args.path.now c.in_ok-name.name.now c.in_ok-name.field-0-1.now found.0 found.1 (c.is_root_name.ensures.0 c.if-is_root_name.true)
+    top_is c.args.path.now c.in_ok-name.name.now c.in_ok-name.field-0-1.now found.0 found.1
+    (c.is_root_name.ensures.0 c.if-is_root_name.true)
 
 pub returns-else-is_root_name : goal.returns-else-is_root_name
 returns-else-is_root_name c =

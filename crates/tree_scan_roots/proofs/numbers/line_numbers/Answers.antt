@@ -17,7 +17,8 @@ returns-then-is_some-clause-fault c =
     subst
     (λ p. IsTwoRoots lines p)
     (sym c.in_ok-copy.ensures)
-    (two_roots lines c.lines.place c.index-lines-place.result path c.lines-test.true refl (distinct before c.lines.numbers c.lines.invariant) has)
+    (two_roots lines c.lines.place c.index-lines-place.result path c.lines-test.true refl
+    (distinct before c.lines.numbers c.lines.invariant) has)
 
 pub lines-preserved : goal.lines-preserved
 lines-preserved c =
@@ -26,9 +27,11 @@ lines-preserved c =
     let before = named (take place lines) in
     let path = (get_or lines place c.index-lines-place.result).path in
     let unseen : is_some (number_of c.lines.numbers path) ≡ false = cc in
-    let count : c.in-Ok.number ≡ length before = c.in-Ok.ensures.1 ∙ sym (length-map (take place lines) (λ line. line.path) ∙ length-take-le place lines (omega arith)) in
+    let count : c.in-Ok.number ≡ length before = c.in-Ok.ensures.1
+    ∙ sym (length-map (take place lines) (λ line. line.path) ∙ length-take-le place lines (omega arith)) in
     let updates = rw c.as_bytes-in-lines.ensures at c.in_ok-give_number.ensures in
     subst
     (λ paths. IsNumbering paths c.give_number.new.numbers)
     (sym (map_more (λ line. line.path) lines place c.index-lines-place.result c.lines-test.true))
-    (numbered_more before c.lines.numbers c.lines.invariant path c.give_number.new.numbers c.in-Ok.number count (none_is (number_of c.lines.numbers path) unseen) updates)
+    (numbered_more before c.lines.numbers c.lines.invariant path c.give_number.new.numbers c.in-Ok.number count
+    (none_is (number_of c.lines.numbers path) unseen) updates)

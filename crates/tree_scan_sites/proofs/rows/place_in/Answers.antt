@@ -6,4 +6,5 @@ use Rattle.tree_scan_sites.proofs.rows.place_in.Goals as goal
 -- the closure compares a row's path with the path
 pub returns-clause-position : goal.returns-clause-position
 returns-clause-position c =
-    c.binary_search_by.ensures.position (λ row. path_order row.path c.args.path.now) (always_returns_same _ _ _ (λ a r g called. (search rules, search rules)))
+    c.binary_search_by.ensures.position (λ row. path_order row.path c.args.path.now)
+    (always_returns_same _ _ _ (λ a r g called. (search rules, search rules)))

@@ -8,7 +8,9 @@ returns-in-None g c =
     let branch = g.Y.Program.branch c.args.theory.now in
     let rest = g.Y.Program.rest c.args.theory.now in
     let laws = g.Y.Theory.laws c.args.theory.now in
-    λ u wanted J K made p f h. answered_none r branch rest laws wanted J made K c.args.self.now.tasks.items c.args.self.now.waiting.items c.args.self.now.phase u c.in-Looks.task _ p (sym c.replace.ensures.value ∙ c.in-Looks.is) f (ap option_copied c.in-None.is) h
+    λ u wanted J K made p f h. answered_none r branch rest laws wanted J made K c.args.self.now.tasks.items
+    c.args.self.now.waiting.items c.args.self.now.phase u c.in-Looks.task _ p (sym c.replace.ensures.value
+    ∙ c.in-Looks.is) f (ap option_copied c.in-None.is) h
 
 pub returns-in_ok-resume-in-Some : goal.returns-in_ok-resume-in-Some
 returns-in_ok-resume-in-Some g c =
@@ -16,4 +18,13 @@ returns-in_ok-resume-in-Some g c =
     let branch = g.Y.Program.branch c.args.theory.now in
     let rest = g.Y.Program.rest c.args.theory.now in
     let laws = g.Y.Theory.laws c.args.theory.now in
-    λ u wanted J K made p f h. let q = sym c.replace.ensures.value ∙ c.in-Looks.is in let x = answered_some r branch rest laws wanted J made K c.args.self.now.tasks.items c.args.self.now.waiting.items c.args.self.now.phase u c.in-Looks.task _ c.in-Some.value.now p q f (ap option_copied c.in-Some.is) h in let y = c.in_ok-resume-in-Some.ensures c.in-Looks.task wanted J K made x.is x.opened x.before in (y.0, y.1, bound_of r branch rest laws wanted J made K c.args.self.now.tasks.items c.args.self.now.waiting.items c.args.self.now.phase c.in-Looks.task _ q y.2)
+    λ u wanted J K made p f h. let q = sym c.replace.ensures.value ∙ c.in-Looks.is in
+    let x = answered_some r branch rest laws wanted J made K c.args.self.now.tasks.items
+    c.args.self.now.waiting.items c.args.self.now.phase u c.in-Looks.task _ c.in-Some.value.now p q f
+    (ap option_copied c.in-Some.is) h in
+    let y = c.in_ok-resume-in-Some.ensures c.in-Looks.task wanted J K made x.is x.opened x.before in (
+      y.0,
+      y.1,
+      bound_of r branch rest laws wanted J made K c.args.self.now.tasks.items
+          c.args.self.now.waiting.items c.args.self.now.phase c.in-Looks.task _ q y.2,
+    )

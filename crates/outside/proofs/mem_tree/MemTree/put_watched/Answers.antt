@@ -8,12 +8,16 @@ use Rattle.outside.proofs.mem_tree.MemTree.put_watched.Goals as goal
 
 pub invariant_of-self-2 : goal.invariant_of-self-2
 invariant_of-self-2 c =
-    let next : c.args.file.stamp.time ≡ c.self.inside.writes + 1 = c.requires.next ∙ sym (ap (λ t. t.writes + 1) c.self.view_is) in
+    let next : c.args.file.stamp.time ≡ c.self.inside.writes + 1 = c.requires.next
+    ∙ sym (ap (λ t. t.writes + 1) c.self.view_is) in
     let is : c.put.new.self ≡ with_file c.args.file c.self.inside.watched = c.in_ok-put.ensures.ok in
-    let numbered : IsNumbered (with_file c.args.file c.self.inside.watched) c.self.inside.given.items c.args.file.stamp.time =
+    let numbered : IsNumbered (with_file c.args.file c.self.inside.watched) c.self.inside.given.items
+    c.args.file.stamp.time =
     subst (λ (n : ℕ). IsNumbered (with_file c.args.file c.self.inside.watched) c.self.inside.given.items n) (sym next)
-    (numbered-with c.args.file c.self.inside.watched c.self.inside.given.items c.self.inside.writes next c.self.invariant.2) in (
-      subst (λ (fs : List FileEntry). All (λ f. IsWatched f.path) fs) (sym is) (with_all (λ f. IsWatched f.path) c.args.file c.self.inside.watched c.requires.watched c.self.invariant.0),
+    (numbered-with c.args.file c.self.inside.watched c.self.inside.given.items c.self.inside.writes next
+    c.self.invariant.2) in (
+      subst (λ (fs : List FileEntry). All (λ f. IsWatched f.path) fs) (sym is)
+          (with_all (λ f. IsWatched f.path) c.args.file c.self.inside.watched c.requires.watched c.self.invariant.0),
       tt,
       subst (λ (fs : List FileEntry). IsNumbered fs c.self.inside.given.items c.args.file.stamp.time) (sym is) numbered,
     )

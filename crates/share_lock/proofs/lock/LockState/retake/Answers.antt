@@ -3,4 +3,5 @@ use Rattle.share_lock.proofs.Sound.{IsSound-restore}
 use Rattle.share_lock.proofs.lock.LockState.retake.Goals as goal
 
 pub invariant_of-self : goal.invariant_of-self
-invariant_of-self c = IsSound-restore _ _ c.args.seat _ c.self.view_is c.self.invariant c.requires.seat (sym c.if-another_owns.ensures) c.restore.ensures
+invariant_of-self c = IsSound-restore _ _ c.args.seat _ c.self.view_is c.self.invariant c.requires.seat
+    (sym c.if-another_owns.ensures) c.restore.ensures

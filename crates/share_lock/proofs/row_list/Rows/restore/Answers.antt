@@ -6,7 +6,12 @@ use Rattle.share_lock.proofs.row_list.Rows.restore.Goals as goal
 
 pub enter-requires-clause-lacking : goal.enter-requires-clause-lacking
 enter-requires-clause-lacking c = λ bit small.
-    omega (arith, c.leave.ensures.lacking bit small, c.self.invariant.lacking bit small, count_by-le-length (waits_without bit) c.self.inside.rows.items)
+    omega (
+      arith,
+      c.leave.ensures.lacking bit small,
+      c.self.invariant.lacking bit small,
+      count_by-le-length (waits_without bit) c.self.inside.rows.items,
+    )
 
 pub invariant_of-self : goal.invariant_of-self
 invariant_of-self c =

@@ -38,5 +38,7 @@ places-preserved c =
     let shorter = subst (λ e. AllShorter roots path e) last c.places.invariant.shorter in
     record {
       within = omega arith;
-      shorter = shorter_still roots numbers are path end shorter (none_case c.number_up_to-found.result (sym c.is_some.ensures ∙ c.if-is_some.false) c.number_up_to-found.ensures.none);
+      shorter = shorter_still roots numbers are path end shorter
+          (none_case c.number_up_to-found.result (sym c.is_some.ensures ∙ c.if-is_some.false)
+          c.number_up_to-found.ensures.none);
     }

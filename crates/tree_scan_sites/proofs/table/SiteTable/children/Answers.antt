@@ -8,7 +8,8 @@ use Rattle.tree_scan_sites.proofs.table.SiteTable.children.Goals as goal
 
 pub returns-then-is_empty : goal.returns-then-is_empty
 returns-then-is_empty c =
-    subst (λ (ss : List Spelled). ListsChildren (Lists ss) c.args.path.now c.self.inside.top) c.self.view_is (tops_are c.self.invariant c.args.path.now (c.is_empty.ensures.0 c.if-is_empty.true))
+    subst (λ (ss : List Spelled). ListsChildren (Lists ss) c.args.path.now c.self.inside.top) c.self.view_is
+    (tops_are c.self.invariant c.args.path.now (c.is_empty.ensures.0 c.if-is_empty.true))
 
 pub returns-in-Ok : goal.returns-in-Ok
 returns-in-Ok c =
@@ -21,4 +22,5 @@ pub returns-in-Err : goal.returns-in-Err
 returns-in-Err c =
     let parts = rw (c.as_slice.ensures.value, c.as_slice-2.ensures) at c.in-Err.ensures.position in
     subst (λ (ss : List Spelled). ListsChildren (Lists ss) c.args.path.now c.self.inside.none) c.self.view_is
-    (missing_children c.self.invariant c.args.path.now c.in-Err.field-0 parts (λ e. false≢true (c.if-is_empty.ensures.1 e)))
+    (missing_children c.self.invariant c.args.path.now c.in-Err.field-0 parts
+    (λ e. false≢true (c.if-is_empty.ensures.1 e)))

@@ -15,5 +15,6 @@ returns-clause-found c =
 pub returns-clause-none : goal.returns-clause-none
 returns-clause-none c =
     let first = rw (c.as_slice-2.ensures, c.as_slice.ensures.value) at c.file_in.ensures in
-    subst (λ (ss : List Spelled). IfNone c.file_in.result ((file : ℕ) → IsFileOf (Lists ss) c.args.path.now file → ⊥)) c.self.view_is
+    subst (λ (ss : List Spelled). IfNone c.file_in.result ((file : ℕ) → IsFileOf (Lists ss) c.args.path.now file →
+    ⊥)) c.self.view_is
     (no_file c.self.invariant c.args.path.now c.file_in.result first)

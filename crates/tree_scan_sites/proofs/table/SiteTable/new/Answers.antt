@@ -8,9 +8,16 @@ invariant_of-result c =
     let spelled = c.put_in_order.new.spelled.items in
     record {
       sorted = c.in_ok-put_in_order.ensures.sorted;
-      rows = c.in_ok-rows.ensures ∙ rw (c.as_slice-2.ensures.value, c.as_slice-3.ensures.value, c.in_ok-paths.ensures, c.as_slice.ensures.value) refl;
+      rows = c.in_ok-rows.ensures
+          ∙ rw (
+            c.as_slice-2.ensures.value,
+            c.as_slice-3.ensures.value,
+            c.in_ok-paths.ensures,
+            c.as_slice.ensures.value,
+          ) refl;
       top = c.in_ok-top.ensures ∙ rw (c.as_slice-4.ensures.value, c.in_ok-paths.ensures, c.as_slice.ensures.value) refl;
       none = c.new.ensures;
       rising = c.in_ok-shadowed.ensures.rising;
-      hidden = same_answers c.in_ok-shadowed.shadowed.items (hidden_files spelled spelled) (rw c.as_slice-5.ensures.value at c.in_ok-shadowed.ensures.exact);
+      hidden = same_answers c.in_ok-shadowed.shadowed.items (hidden_files spelled spelled)
+          (rw c.as_slice-5.ensures.value at c.in_ok-shadowed.ensures.exact);
     }
