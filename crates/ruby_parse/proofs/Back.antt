@@ -30,6 +30,7 @@ read_back bytes text tree e t =
       },
     )
 
+-- What is printed of a text's tree is a deep text of the same tree: for the clause `read_back`.
 pub result_read_back : {E : Type 0} (r : Result (List ℕ) E) (tree : FileTree) → IfOk r (λ text. text ≡ print tree) →
     IfOk r (λ text. (bytes : List ℕ) → IsText bytes tree → IsDeepText text tree)
 result_read_back (Ok text) tree e = λ bytes t. read_back bytes text tree e t

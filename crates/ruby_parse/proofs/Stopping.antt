@@ -22,11 +22,13 @@ use Rattle.ruby_parse.specs.Stops.{kind_view, stop, left_over, stop_of, Stopped,
 
 -- ---- what a reader of the words comes to
 
+-- Words left behind a file are where its reading stopped.
 pub is_left : (ws : List Word) (end : ℕ) (tree : FileTree) (rest : List Word) → GivesFile ws (Ok tree) rest →
     (rest ≡ [] → ⊥) → Stopped ws end (left_over end rest)
 is_left ws end tree [] g h = absurd (h refl)
 is_left ws end tree (w ∷ rest) g h = stopped (r.done tree g.0 (w ∷ rest)) g.1 tt
 
+-- A fault of the reader is where its reading stopped.
 pub is_stopped : (ws : List Word) (end : ℕ) (rest : List Word) (e : Fault) → GivesFile ws (Err e) rest →
     Stopped ws end (stop_of end rest e)
 is_stopped ws end rest f.Unexpected g = stopped (r.fault r.Unexpected rest) g tt
@@ -45,7 +47,7 @@ stands bytes at not_in_profile h = h
 stands bytes at too_deep h = h
 stands bytes at twice_defined h = h
 
-pub only_memory : (bytes : List ℕ) (tree : FileTree) (at : ℕ) (kind : SyntaxKind) → IsText bytes tree →
+only_memory : (bytes : List ℕ) (tree : FileTree) (at : ℕ) (kind : SyntaxKind) → IsText bytes tree →
     FaultStands bytes at kind → kind ≡ k.Memory
 only_memory bytes tree at k.Lex t h = absurd (no_fault_in_a_text bytes tree at lexical t h)
 only_memory bytes tree at k.Expected t h = absurd (no_fault_in_a_text bytes tree at (of_grammar expected) t h)
@@ -54,22 +56,26 @@ only_memory bytes tree at k.TooDeep t h = absurd (no_fault_in_a_text bytes tree 
 only_memory bytes tree at k.TwiceDefined t h = absurd (no_fault_in_a_text bytes tree at (of_grammar twice_defined) t h)
 only_memory bytes tree at k.Memory t h = refl
 
+-- A fault of the grammar before the lexer's is the file's.
 pub stands_before : (bytes : List ℕ) (tokens : List Token) (kind : LexKind) (at : ℕ) (e : SyntaxFault) →
     Lexes bytes (fault tokens kind at) → Stopped (words_of bytes tokens) at e → e.at < at → IsFaultOf bytes e
 stands_before bytes tokens kind at e l (stopped o read is) h = stands bytes (fault_place at o) (fault_kind o)
     (fault_before bytes tokens kind at o l read is h)
 stands_before bytes tokens kind at e l wanting h = refl
 
+-- The lexer's fault is the file's where the grammar's doesn't stand before it.
 pub lexer_first : (bytes : List ℕ) (tokens : List Token) (kind : LexKind) (at : ℕ) (e : SyntaxFault) →
     Lexes bytes (fault tokens kind at) → Stopped (words_of bytes tokens) at e → at ≤ e.at → NoText bytes at lexical
 lexer_first bytes tokens kind at e l (stopped o read is) h = fault_of_lexer bytes tokens kind at o l read (λ _. h)
 lexer_first bytes tokens kind at e l wanting h = no_token l (λ n _ _. omega (arith, h))
 
+-- The lexer's fault is the file's where all tokens before it are a whole file.
 pub lexer_alone : (bytes : List ℕ) (tokens : List Token) (kind : LexKind) (at : ℕ) (tree : FileTree) →
     Lexes bytes (fault tokens kind at) → GivesTree (words_of bytes tokens) at (Ok tree) → NoText bytes at lexical
 lexer_alone bytes tokens kind at tree l g = fault_of_lexer bytes tokens kind at (r.done tree g.0 []) l g.1
     (λ none. absurd none)
 
+-- A tree that was read of all tokens is the file's: for `found`.
 pub found_in : (bytes : List ℕ) (tokens : List Token) (x : Result FileTree SyntaxFault) → Lexes bytes (done tokens) →
     GivesTree (words_of bytes tokens) (length bytes) x → IfOk x (λ tree. IsText bytes tree)
 found_in bytes tokens (Ok tree) l g = text_read bytes tokens tree g.0 l g.1
@@ -81,11 +87,13 @@ stopped_in bytes tokens e l (stopped o read is) = stands bytes (fault_place (len
     (fault_read bytes tokens o l read is)
 stopped_in bytes tokens e l wanting = refl
 
+-- A fault that was read of all tokens is the file's: for `fault`.
 pub fault_in : (bytes : List ℕ) (tokens : List Token) (x : Result FileTree SyntaxFault) → Lexes bytes (done tokens) →
     GivesTree (words_of bytes tokens) (length bytes) x → IfErr x (IsFaultOf bytes)
 fault_in bytes tokens (Ok tree) l g = tt
 fault_in bytes tokens (Err e) l g = stopped_in bytes tokens e l g
 
+-- A file with a tree is answered with it: for `only`.
 pub only_in : (bytes : List ℕ) (x : Result FileTree SyntaxFault) → IfOk x (λ tree. IsText bytes tree) →
     IfErr x (IsFaultOf bytes) → (tree : FileTree) → IsText bytes tree →
     MatchResult x (λ found. found ≡ tree) (λ e. e.kind ≡ k.Memory)

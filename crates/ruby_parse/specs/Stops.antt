@@ -21,6 +21,7 @@ kind_view not_in_profile = k.NotInProfile
 kind_view too_deep = k.TooDeep
 kind_view twice_defined = k.TwiceDefined
 
+-- A fault of this place and kind.
 abbrev pub stop : ℕ → SyntaxKind → SyntaxFault
 stop at kind = record { at = at; kind = kind }
 

@@ -1,35 +1,10 @@
-//! What `ruby_parse` answers for whole files, worked out by hand from the rules of the profile.
+//! What `ruby_parse` does with the longest and deepest files: chains of a million links and a hundred levels end in
+//! an answer.
 //!
-//! Each row is a text and what stands for its tree or its first fault; `shown` says how trees are written.
+//! What it answers for short files is tried by `ruby_parse_cases`.
 #![tactic(auto)]
 
 #[cfg(test)]
 mod chains;
 #[cfg(test)]
-mod clashes;
-#[cfg(test)]
-mod definitions;
-#[cfg(test)]
-mod faults;
-#[cfg(test)]
 mod large;
-#[cfg(test)]
-mod levels;
-#[cfg(test)]
-mod lexical;
-#[cfg(test)]
-mod lines;
-#[cfg(test)]
-mod operators;
-#[cfg(test)]
-mod printed;
-#[cfg(test)]
-mod rows;
-#[cfg(test)]
-mod shown;
-#[cfg(test)]
-mod statements;
-#[cfg(test)]
-mod values;
-#[cfg(test)]
-mod variables;

@@ -30,6 +30,7 @@ begun (Err error) o0 o1 p0 p1 b s w e h i = h
 operator-parts : (o a r p : List ℕ) → o ++ (a ++ (r ++ p)) ≡ (o ++ (a ++ r)) ++ p
 operator-parts o a r p = grind (arith, common_steps)
 
+-- What is written of an operator's piece and what is then pending make the piece's text: for the step of operators.
 pub begun-operator : {T E : Type 0} (r : Result T E) (piece : Pending) (sign : Bor (List ℕ)) (x : Bor Expr)
     (inside : Bool) (o0 o1 p0 p1 : List ℕ) →
     piece ≡ p.Operator sign x inside → OnOk r (o1 ≡ o0 ++ sign.now) →
@@ -41,6 +42,7 @@ begun-operator r piece sign x inside o0 o1 p0 p1 e h i =
 
 -- ---- by the kinds of expressions: x is the one that is begun
 
+-- A call on self is written whole at once: for the step of expressions without a receiver.
 pub whole-own : {T E : Type 0} (r : Result T E) (x : Expr) (on : Option Expr) (name : List ℕ)
     (args args' : List Expr) (inside : Bool) (o0 o1 p : List ℕ) →
     x ≡ v.Call on name args → on ≡ None → args' ≡ args →
@@ -54,6 +56,7 @@ whole-own r x on name args args' inside o0 o1 p e n a h =
 call-parts : (a b c p : List ℕ) → a ++ (b ++ (c ++ p)) ≡ (a ++ (b ++ c)) ++ p
 call-parts a b c p = grind (arith, common_steps)
 
+-- What is written before a call's receiver and what is then pending make the call's text.
 pub begun-call : {T E : Type 0} (r : Result T E) (x on' : Expr) (on : Option Expr) (name : List ℕ)
     (args args' : List Expr) (inside : Bool) (o0 o1 p0 p1 : List ℕ) →
     x ≡ v.Call on name args → on ≡ Some on' → args' ≡ args →
@@ -71,6 +74,7 @@ begun-call r x on' on name args args' inside o0 o1 p0 p1 e n a h i =
 last-parts : (l o a r p : List ℕ) → l ++ (o ++ (a ++ (r ++ p))) ≡ (l ++ ((o ++ a) ++ r)) ++ p
 last-parts l o a r p = grind (arith, common_steps)
 
+-- What is written and pending of a negation make its text.
 pub begun-Not : {T E : Type 0} (r : Result T E) (x a a' : Expr) (inside : Bool) (o0 o1 p0 p1 : List ℕ) →
     x ≡ v.Not a → a' ≡ a →
     OnOk r (o1 ≡ o0 ++ left inside) → OnOk r (p1 ≡ codes "!" ++ (inner a' ++ (right inside ++ p0))) →
@@ -83,6 +87,7 @@ begun-Not r x a a' inside o0 o1 p0 p1 e ea h i =
 both-parts : (l a o b r p : List ℕ) → l ++ (a ++ (o ++ (b ++ (r ++ p)))) ≡ (l ++ ((a ++ (o ++ b)) ++ r)) ++ p
 both-parts l a o b r p = grind (arith, common_steps)
 
+-- What is written and pending of `&&` make its text.
 pub begun-And : {T E : Type 0} (r : Result T E) (x a a' b b' : Expr) (inside : Bool) (o0 o1 p0 p1 : List ℕ) →
     x ≡ v.And a b → a' ≡ a → b' ≡ b →
     OnOk r (o1 ≡ o0 ++ left inside) → OnOk r (p1 ≡ inner a' ++ (codes " && " ++ (inner b' ++ (right inside ++ p0)))) →
@@ -94,6 +99,7 @@ begun-And r x a a' b b' inside o0 o1 p0 p1 e ea eb h i =
     (ap (λ x. expression x inside) (e ∙ ap (λ a. v.And a b) (sym ea) ∙ ap (λ b. v.And a' b) (sym eb))
     ∙ print-And a' b' inside))) h i
 
+-- What is written and pending of `||` make its text.
 pub begun-Or : {T E : Type 0} (r : Result T E) (x a a' b b' : Expr) (inside : Bool) (o0 o1 p0 p1 : List ℕ) →
     x ≡ v.Or a b → a' ≡ a → b' ≡ b →
     OnOk r (o1 ≡ o0 ++ left inside) → OnOk r (p1 ≡ inner a' ++ (codes " || " ++ (inner b' ++ (right inside ++ p0)))) →
@@ -109,6 +115,7 @@ choice-parts : (l a o b q c r p : List ℕ) → l ++ (a ++ (o ++ (b ++ (q ++ (c 
     ≡ (l ++ ((a ++ (o ++ (b ++ (q ++ c)))) ++ r)) ++ p
 choice-parts l a o b q c r p = grind (arith, common_steps)
 
+-- What is written and pending of a choice make its text.
 pub begun-Choose : {T E : Type 0} (r : Result T E) (x a a' b b' c c' : Expr) (inside : Bool) (o0 o1 p0 p1 : List ℕ) →
     x ≡ v.Choose a b c → a' ≡ a → b' ≡ b → c' ≡ c →
     OnOk r (o1 ≡ o0 ++ left inside) →

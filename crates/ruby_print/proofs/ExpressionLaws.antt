@@ -23,6 +23,7 @@ inner_all : (xs : List Expr) → map (λ (x : Printed). x true) (map expression 
 inner_all [] = refl
 inner_all (x ∷ xs) = ap (λ t. inner x ∷ t) (inner_all xs)
 
+-- The members of a list are the texts of its expressions with commas between: for lists and arguments.
 pub members_of : (xs : List Expr) → members (map expression xs) ≡ joined (map inner xs)
 members_of xs = ap joined (inner_all xs)
 
@@ -31,31 +32,39 @@ inner_pairs : (ps : List (Expr × Expr)) → map pair_text (map (λ p. (expressi
 inner_pairs [] = refl
 inner_pairs (p ∷ ps) = ap (λ t. inner_pair p ∷ t) (inner_pairs ps)
 
+-- The text of a symbol, read off the definition.
 pub print-Sym : (name : List ℕ) (inside : Bool) → expression (v.Sym name) inside ≡ 58 ∷ name
 print-Sym name inside = ap (λ f. f inside) (level _ _ (v.outs-Sym name))
 
+-- The text of a local variable, read off the definition.
 pub print-Local : (name : List ℕ) (inside : Bool) → expression (v.Local name) inside ≡ name
 print-Local name inside = ap (λ f. f inside) (level _ _ (v.outs-Local name))
 
+-- The text of an instance variable, read off the definition.
 pub print-Ivar : (name : List ℕ) (inside : Bool) → expression (v.Ivar name) inside ≡ 64 ∷ name
 print-Ivar name inside = ap (λ f. f inside) (level _ _ (v.outs-Ivar name))
 
+-- The text of a constant, read off the definition.
 pub print-Const : (constant : ConstRef) (inside : Bool) → expression (v.Const constant) inside ≡ constant_text constant
 print-Const constant inside = ap (λ f. f inside) (level _ _ (v.outs-Const constant))
 
+-- The text of an array, read off the definition.
 pub print-Array : (xs : List Expr) (inside : Bool) →
     expression (v.Array xs) inside ≡ 91 ∷ (members (map expression xs) ++ 93 ∷ [])
 print-Array xs inside = ap (λ f. f inside) (level _ _ (v.outs-Array xs))
 
+-- The text of a text, read off the definition.
 pub print-Str : (ps : List Part) (inside : Bool) → expression (v.Str ps) inside ≡ 34 ∷ (flat_map part ps ++ 34 ∷ [])
 print-Str ps inside = ap (λ f. f inside) (level _ _ (v.outs-Str ps))
     ∙ ap (λ t. 34 ∷ (t ++ 34 ∷ [])) (flat_map-map (λ t. t) part ps)
 
+-- The text of a hash, read off the definition.
 pub print-Hash : (ps : List (Expr × Expr)) (inside : Bool) →
     expression (v.Hash ps) inside ≡ 123 ∷ (joined (map inner_pair ps) ++ 125 ∷ [])
 print-Hash ps inside = ap (λ f. f inside) (level _ _ (v.outs-Hash ps))
     ∙ ap (λ t. 123 ∷ (joined t ++ 125 ∷ [])) (inner_pairs ps)
 
+-- The text of a call on self, read off the definition.
 pub print-own : (name : List ℕ) (args : List Expr) (inside : Bool) → expression (v.Call None name args) inside
     ≡ name ++ grouped (members (map expression args))
 print-own name args inside = ap (λ f. f inside) (level _ _ (v.outs-Call None name args))
@@ -64,6 +73,7 @@ print-call : (on : Expr) (name : List ℕ) (args : List Expr) (inside : Bool) �
     expression (v.Call (Some on) name args) inside ≡ call_on (expression on) name (map expression args) inside
 print-call on name args inside = ap (λ f. f inside) (level _ _ (v.outs-Call (Some on) name args))
 
+-- A key, an arrow and a value written one after another are a pair's text.
 pub pair_steps : (o1 o2 o3 o4 k v : List ℕ) → o2 ≡ o1 ++ k → o3 ≡ o2 ++ codes " => " → o4 ≡ o3 ++ v →
     o4 ≡ o1 ++ (k ++ (codes " => " ++ v))
 pair_steps o1 o2 o3 o4 k v a b c = grind (arith, common_steps)
@@ -93,23 +103,28 @@ call_parts on name args inside =
     refl (minus_parts (left inside) (codes "- ") (inner on) (right inside))
     (operator_parts (left inside) (inner on) name (members (map expression args)) (right inside)) refl
 
+-- The text of a call is what stands before its receiver, the receiver, and what stands behind it.
 pub print-parts : (on : Expr) (name : List ℕ) (args : List Expr) (inside : Bool) →
     expression (v.Call (Some on) name args) inside ≡ before_receiver name inside ++
     (inner on ++ behind_receiver name (map expression args) inside)
 print-parts on name args inside = print-call on name args inside ∙ sym (call_parts on name args inside)
 
+-- The text of a negation, read off the definition.
 pub print-Not : (a : Expr) (inside : Bool) →
     expression (v.Not a) inside ≡ left inside ++ ((33 ∷ inner a) ++ right inside)
 print-Not a inside = ap (λ f. f inside) (level _ _ (v.outs-Not a))
 
+-- The text of `&&`, read off the definition.
 pub print-And : (a b : Expr) (inside : Bool) →
     expression (v.And a b) inside ≡ left inside ++ ((inner a ++ (codes " && " ++ inner b)) ++ right inside)
 print-And a b inside = ap (λ f. f inside) (level _ _ (v.outs-And a b))
 
+-- The text of `||`, read off the definition.
 pub print-Or : (a b : Expr) (inside : Bool) →
     expression (v.Or a b) inside ≡ left inside ++ ((inner a ++ (codes " || " ++ inner b)) ++ right inside)
 print-Or a b inside = ap (λ f. f inside) (level _ _ (v.outs-Or a b))
 
+-- The text of a choice, read off the definition.
 pub print-Choose : (a b c : Expr) (inside : Bool) → expression (v.Choose a b c) inside
     ≡ left inside ++ ((inner a ++ (codes " ? " ++ (inner b ++ (codes " : " ++ inner c)))) ++ right inside)
 print-Choose a b c inside = ap (λ f. f inside) (level _ _ (v.outs-Choose a b c))

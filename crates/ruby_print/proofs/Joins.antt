@@ -5,6 +5,7 @@ use Rattle.std.proofs.lemmas.Grind.{common_steps}
 use Rattle.std.proofs.lemmas.List.{take_more, map-append}
 use Rattle.ruby_print.specs.Pieces.{joined}
 
+-- Whether a list is empty, as loops keep it in their flag of the first member.
 abbrev pub is_nil : {X : Type 0} → List X → Bool
 is_nil [] = true
 is_nil (x ∷ xs) = false
@@ -33,6 +34,7 @@ grow f (y ∷ ys) x o0 o1 o2 o3 a b c =
     grow_more o0 o1 o2 o3 (f x) (44 ∷ 32 ∷ []) _ _ a b c (ap joined (map-append f (y ∷ ys) (x ∷ []))
     ∙ joined-push (f y) (f x) (map f ys))
 
+-- One more member keeps a loop's invariant over texts with commas between.
 pub joined-more : {X : Type 0} (f : X → List ℕ) (xs : List X) (i : ℕ) (x : X) (o0 o1 o2 o3 : List ℕ) (first : Bool) →
     i < length xs → x ≡ get_or xs i x →
     (first ≡ is_nil (take i xs)) × (o1 ≡ o0 ++ joined (map f (take i xs))) →
@@ -47,6 +49,7 @@ grow_names : (ys : List (List ℕ)) (x : List ℕ) (o0 o1 o2 o3 : List ℕ) →
 grow_names [] x o0 o1 o2 o3 a b c = grow_first o0 o1 o2 o3 x a b c
 grow_names (y ∷ ys) x o0 o1 o2 o3 a b c = grow_more o0 o1 o2 o3 x (44 ∷ 32 ∷ []) _ _ a b c (joined-push y x ys)
 
+-- One more name keeps a loop's invariant over names with commas between.
 pub names-more : (xs : List (List ℕ)) (i : ℕ) (x : List ℕ) (o0 o1 o2 o3 : List ℕ) (first : Bool) →
     i < length xs → x ≡ get_or xs i x →
     (first ≡ is_nil (take i xs)) × (o1 ≡ o0 ++ joined (take i xs)) → o2 ≡ cond first o1 (o1 ++ 44 ∷ 32 ∷ []) →

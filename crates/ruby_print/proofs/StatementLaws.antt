@@ -19,10 +19,12 @@ use Rattle.ruby_print.specs.Statements.{statement_lines, statements_behind, stat
 use Rattle.ruby_print.specs.Definitions.{body, parent_text, symbol, definition_step, definition, definition_lines}
 use Rattle.ruby_print.proofs.Joins.{is_nil}
 
+-- Statements inside a definition are their lines, two spaces deeper.
 pub statements_inside : (indent : List ℕ) (ss : List Stmt) → inside indent (map statement ss)
     ≡ 10 ∷ (statement_lines (deeper indent) ss ++ indent)
 statements_inside indent ss = ap (λ t. 10 ∷ (t ++ indent)) (flat_map-map (line (deeper indent)) statement ss)
 
+-- Definitions inside a definition are their lines, two spaces deeper.
 pub definitions_inside : (indent : List ℕ) (ds : List Def) → inside indent (map definition ds)
     ≡ 10 ∷ (definition_lines (deeper indent) ds ++ indent)
 definitions_inside indent ds = ap (λ t. 10 ∷ (t ++ indent)) (flat_map-map (line (deeper indent)) definition ds)
@@ -37,6 +39,7 @@ all_behind indent (a ∷ as') =
     (map (λ a. (a.0, map statement a.1)) as')) (flat_map-map (λ x. x indent) statement a.1)
     ∙ ap (λ t. statements_behind indent a ++ t) (all_behind indent as')
 
+-- The text of an `if` behind its statement, read off the definition.
 pub print-behind : (as' : List (Expr × List Stmt)) (other : List Stmt) (indent : List ℕ) →
     statement (s.If as' other true) indent ≡ flat_map (statements_behind indent) as'
 print-behind as' other indent =
@@ -44,6 +47,7 @@ print-behind as' other indent =
     ∙ ap (λ l. statement_step (map-Stmt Stmt Placed statement l)) (s.outs-If as' other true))
     ∙ all_behind indent as'
 
+-- The text of a block `if`, read off the definition.
 pub print-If : (as' : List (Expr × List Stmt)) (other : List Stmt) (indent : List ℕ) →
     statement (s.If as' other false) indent ≡ statement_arms indent (codes "if ") as' ++
     (otherwise indent (map statement other) ++ codes "end")
@@ -78,6 +82,7 @@ nil-push : {X : Type 0} (xs : List X) (x : X) → false ≡ is_nil (xs ++ x ∷ 
 nil-push [] x = refl
 nil-push (y ∷ ys) x = refl
 
+-- One more arm keeps the invariant of the loop over arms.
 pub arms-more : (indent : List ℕ) (as' : List (Expr × List Stmt)) (i : ℕ) (a : Expr × List Stmt)
     (o0 o1 o2 o3 o4 : List ℕ) (first : Bool) →
     i < length as' → a ≡ get_or as' i a →
@@ -94,34 +99,37 @@ arms-more indent as' i a o0 o1 o2 o3 o4 first h e inv b c z =
 
 -- ---- other statements
 
+-- The text of an assignment, read off the definition.
 pub print-Set : (name : List ℕ) (value : Expr) (indent : List ℕ) → statement (s.Set name value) indent
     ≡ name ++ (codes " = " ++ alone value)
 print-Set name value indent = ap (λ f. f indent) (fold_out-Stmt Placed statement_step (s.Set name value)
     ∙ ap (λ l. statement_step (map-Stmt Stmt Placed statement l)) (s.outs-Set name value))
 
+-- The text of an instance variable's assignment, read off the definition.
 pub print-SetIvar : (name : List ℕ) (value : Expr) (indent : List ℕ) → statement (s.SetIvar name value) indent
     ≡ 64 ∷ (name ++ (codes " = " ++ alone value))
 print-SetIvar name value indent = ap (λ f. f indent) (fold_out-Stmt Placed statement_step (s.SetIvar name value)
     ∙ ap (λ l. statement_step (map-Stmt Stmt Placed statement l)) (s.outs-SetIvar name value))
 
+-- The text of `raise`, read off the definition.
 pub print-Raise : (x : Expr) (indent : List ℕ) → statement (s.Raise x) indent ≡ codes "raise " ++ alone x
 print-Raise x indent = ap (λ f. f indent) (fold_out-Stmt Placed statement_step (s.Raise x)
     ∙ ap (λ l. statement_step (map-Stmt Stmt Placed statement l)) (s.outs-Raise x))
 
 -- ---- definitions
 
-pub print-Module : (path : List (List ℕ)) (ds : List Def) (indent : List ℕ) → definition (d.Module path ds) indent
+print-Module : (path : List (List ℕ)) (ds : List Def) (indent : List ℕ) → definition (d.Module path ds) indent
     ≡ codes "module " ++ (path_text path ++ body indent (map definition ds))
 print-Module path ds indent = ap (λ f. f indent) (fold_out-Def Placed definition_step (d.Module path ds)
     ∙ ap (λ l. definition_step (map-Def Def Placed definition l)) (d.outs-Module path ds))
 
-pub print-Class : (path : List (List ℕ)) (parent : Option ConstRef) (ds : List Def) (indent : List ℕ) →
+print-Class : (path : List (List ℕ)) (parent : Option ConstRef) (ds : List Def) (indent : List ℕ) →
     definition (d.Class path parent ds) indent
     ≡ codes "class " ++ (path_text path ++ (parent_text parent ++ body indent (map definition ds)))
 print-Class path parent ds indent = ap (λ f. f indent) (fold_out-Def Placed definition_step (d.Class path parent ds)
     ∙ ap (λ l. definition_step (map-Def Def Placed definition l)) (d.outs-Class path parent ds))
 
-pub print-Readers : (names : List (List ℕ)) (indent : List ℕ) → definition (d.Readers names) indent
+print-Readers : (names : List (List ℕ)) (indent : List ℕ) → definition (d.Readers names) indent
     ≡ codes "attr_reader " ++ joined (map symbol names)
 print-Readers names indent = ap (λ f. f indent) (fold_out-Def Placed definition_step (d.Readers names)
     ∙ ap (λ l. definition_step (map-Def Def Placed definition l)) (d.outs-Readers names))

@@ -16,6 +16,7 @@ use Rattle.ruby_print.specs.Statements.{Placed, line, inside, statement}
 abbrev pub body : List ℕ → List Placed → List ℕ
 body indent xs = inside indent xs ++ codes "end"
 
+-- What a class writes of its parent: ` < A::B`, or nothing.
 abbrev pub parent_text : Option ConstRef → List ℕ
 parent_text None = []
 parent_text (Some c) = codes " < " ++ constant_text c
@@ -29,9 +30,11 @@ parameters_text (n ∷ ns) = grouped (joined (n ∷ ns))
 abbrev pub heading : Bool → List ℕ → List (List ℕ) → List ℕ
 heading single name params = (if single then codes "def self." else codes "def ") ++ (name ++ parameters_text params)
 
+-- A name as a symbol: `:name`.
 abbrev pub symbol : List ℕ → List ℕ
 symbol name = 58 ∷ name
 
+-- One level of a definition, its inner definitions being printed.
 abbrev pub definition_step : Def-F Placed → Placed
 definition_step (d.Module path xs) indent = codes "module " ++ (path_text path ++ body indent xs)
 definition_step (d.Class path parent xs) indent =
@@ -41,6 +44,7 @@ definition_step (d.Method single name params ss) indent = heading single name pa
 definition_step (d.Include c) indent = codes "include " ++ constant_text c
 definition_step (d.Readers names) indent = codes "attr_reader " ++ joined (map symbol names)
 
+-- A definition, given the spaces that its line begins with.
 abbrev pub definition : Def → Placed
 definition = fold-Def Placed definition_step
 

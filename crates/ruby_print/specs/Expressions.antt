@@ -19,6 +19,7 @@ Printed = Bool → List ℕ
 abbrev pub left : Bool → List ℕ
 left inside = if inside then 40 ∷ [] else []
 
+-- The parenthesis behind an operator that stands inside another expression.
 abbrev pub right : Bool → List ℕ
 right inside = if inside then 41 ∷ [] else []
 
@@ -59,6 +60,7 @@ before_receiver name inside =
     else (if bytes_eq name (codes "-@") then left inside ++ codes "- "
     else (if is_operator name then left inside else []))
 
+-- What a call writes behind its receiver: `.name(..)`, `[..]`, or an operator and its right side.
 abbrev pub behind_receiver : List ℕ → List Printed → Printed
 behind_receiver name args inside =
     if bytes_eq name (codes "[]") then 91 ∷ (members args ++ 93 ∷ [])
@@ -97,9 +99,11 @@ abbrev pub part_step : Part-F Printed (List ℕ) → List ℕ
 part_step (e.Plain text) = flat_map escaped text
 part_step (e.Inside x) = 35 ∷ 123 ∷ (x true ++ 125 ∷ [])
 
+-- An expression, given whether it stands inside another one.
 abbrev pub expression : Expr → Printed
 expression = fold-Expr Printed (List ℕ) expression_step part_step
 
+-- A part of a text: escaped bytes, or `#{..}`.
 abbrev pub part : Part → List ℕ
 part = fold-Part Printed (List ℕ) expression_step part_step
 
@@ -107,6 +111,7 @@ part = fold-Part Printed (List ℕ) expression_step part_step
 abbrev pub inner : Expr → List ℕ
 inner x = expression x true
 
+-- An expression that stands in no other one.
 abbrev pub alone : Expr → List ℕ
 alone x = expression x false
 

@@ -9,12 +9,14 @@ use Rattle.ruby_print.specs.declared.pending.Pending.{Pending}
 use Rattle.ruby_print.specs.declared.pending.Pending.TheVariants as p
 use Rattle.ruby_print.specs.Expressions.{right, behind_receiver, expression, inner}
 
+-- What a pending piece writes.
 abbrev pub piece_text : Pending → List ℕ
 piece_text (p.Operand x) = inner x.now
 piece_text (p.Operator sign x inside) = sign.now ++ (inner x.now ++ right inside)
 piece_text (p.Behind name args inside) = behind_receiver name.now (map expression args.now) inside
 piece_text p.Close = 41 ∷ []
 
+-- What all that is pending writes, the last piece first.
 abbrev pub pending_text : List Pending → List ℕ
 pending_text [] = []
 pending_text (x ∷ xs) = pending_text xs ++ piece_text x
@@ -26,6 +28,7 @@ piece_depth (p.Operator sign x inside) = size-Expr x.now
 piece_depth (p.Behind name args inside) = weight-Expr-Array-0 args.now + 1
 piece_depth p.Close = 0
 
+-- How deep the deepest pending piece nests.
 abbrev pub depth : List Pending → ℕ
 depth [] = 0
 depth (x ∷ xs) = max (depth xs) (piece_depth x)
@@ -35,6 +38,7 @@ abbrev pub received : Option ℕ → ℕ
 received None = 0
 received (Some n) = n
 
+-- One level of an expression's links, which are printed without recursion.
 abbrev pub links_step : Expr-F ℕ ℕ → ℕ
 links_step (e.Call on name args) = received on + 3
 links_step (e.Not a) = a + 3
@@ -43,9 +47,11 @@ links_step (e.Or a b) = a + b + 3
 links_step (e.Choose a b c) = a + b + c + 3
 links_step _ = 3
 
+-- A part of a text is no link.
 abbrev pub no_links : Part-F ℕ ℕ → ℕ
 no_links _ = 0
 
+-- How many links of operators, calls and choices an expression begins with.
 abbrev pub links : Expr → ℕ
 links = fold-Expr ℕ ℕ links_step no_links
 
@@ -56,6 +62,7 @@ piece_steps (p.Operator sign x inside) = 2 * links x.now + 2
 piece_steps (p.Behind name args inside) = 1
 piece_steps p.Close = 1
 
+-- How many steps are left for what is pending.
 abbrev pub steps : List Pending → ℕ
 steps [] = 0
 steps (x ∷ xs) = steps xs + piece_steps x

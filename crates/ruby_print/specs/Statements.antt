@@ -15,9 +15,11 @@ Placed = List ℕ → List ℕ
 abbrev pub deeper : List ℕ → List ℕ
 deeper indent = 32 ∷ 32 ∷ indent
 
+-- A statement on its line, behind its spaces and before its LF.
 abbrev pub line : List ℕ → Placed → List ℕ
 line indent x = indent ++ (x indent ++ 10 ∷ [])
 
+-- Statements, a line each.
 abbrev pub lines : List ℕ → List Placed → List ℕ
 lines indent xs = flat_map (line indent) xs
 
@@ -30,6 +32,7 @@ abbrev pub arms : List ℕ → List ℕ → List (Expr × List Placed) → List 
 arms indent word [] = []
 arms indent word (a ∷ as') = word ++ (alone a.0 ++ (inside indent a.1 ++ arms indent (codes "elsif ") as'))
 
+-- The `else` of an `if` with its statements, or nothing.
 abbrev pub otherwise : List ℕ → List Placed → List ℕ
 otherwise indent [] = []
 otherwise indent (x ∷ xs) = codes "else" ++ inside indent (x ∷ xs)
@@ -38,14 +41,17 @@ otherwise indent (x ∷ xs) = codes "else" ++ inside indent (x ∷ xs)
 abbrev pub behind : List ℕ → Expr × List Placed → List ℕ
 behind indent a = flat_map (λ x. x indent) a.1 ++ (codes " if " ++ alone a.0)
 
+-- An `if` behind its statement, or as a block.
 abbrev pub if_text : Bool → List (Expr × List Placed) → List Placed → Placed
 if_text true as' other indent = flat_map (behind indent) as'
 if_text false as' other indent = arms indent (codes "if ") as' ++ (otherwise indent other ++ codes "end")
 
+-- `return` with its value, or alone.
 abbrev pub return_text : Option Expr → List ℕ
 return_text None = codes "return"
 return_text (Some x) = codes "return " ++ alone x
 
+-- One level of a statement, its inner statements being printed.
 abbrev pub statement_step : Stmt-F Placed → Placed
 statement_step (s.Expr x) indent = alone x
 statement_step (s.Set name value) indent = name ++ (codes " = " ++ alone value)
@@ -54,6 +60,7 @@ statement_step (s.Return x) indent = return_text x
 statement_step (s.Raise x) indent = codes "raise " ++ alone x
 statement_step (s.If as' other after) indent = if_text after as' other indent
 
+-- A statement, given the spaces that its line begins with.
 abbrev pub statement : Stmt → Placed
 statement = fold-Stmt Placed statement_step
 

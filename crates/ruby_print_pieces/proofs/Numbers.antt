@@ -50,6 +50,7 @@ unsigned_value (b ∷ bs) h = by_test (b == 45) _ _ h
 below_zero : (n : ℕ) → pos 0 -ℤ pos (suc n) ≡ negsuc n
 below_zero n = grind arith
 
+-- A printed number is read as the same number.
 pub number_back : (n : ℤ) → IsInRange n → number_of (signed_decimal n) ≡ n
 number_back (pos n) h = let b = back n (omega arith) in unsigned_value (decimal n) b.1 ∙ ap pos b.0
 number_back (negsuc n) h = let b = back (suc n) (omega arith) in ap (λ m. pos 0 -ℤ pos m) b.0 ∙ below_zero n

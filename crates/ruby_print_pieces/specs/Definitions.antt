@@ -17,10 +17,12 @@ use Rattle.ruby_print_pieces.specs.Statements.{Placed, line, inside, value, stat
 abbrev pub body : List ℕ → List Placed → List Piece
 body indent xs = inside indent xs ++ name indent (codes "end") ∷ []
 
+-- The pieces of ` < A::B`, or none.
 abbrev pub parent : Option ConstRef → List Piece
 parent None = []
 parent (Some c) = mark space op.Less (codes "<") ∷ constant space c
 
+-- The pieces of a method's parameters in parentheses, or none.
 abbrev pub parameters : List (List ℕ) → List Piece
 parameters [] = []
 parameters (n ∷ ns) = open_paren [] ∷ (listed k.Name [] (n ∷ ns) ++ close_paren ∷ [])
@@ -30,6 +32,7 @@ abbrev pub heading : Bool → List ℕ → List Piece
 heading true called = name space (codes "self") ∷ dot ∷ name [] called ∷ []
 heading false called = name space called ∷ []
 
+-- One level of a definition's pieces.
 abbrev pub definition_step : Def-F Placed → Placed
 definition_step (d.Module names xs) indent = name indent (codes "module") ∷ (path space names ++ body indent xs)
 definition_step (d.Class names p xs) indent =
@@ -40,6 +43,7 @@ definition_step (d.Method single called params ss) indent =
 definition_step (d.Include c) indent = name indent (codes "include") ∷ constant space c
 definition_step (d.Readers names) indent = name indent (codes "attr_reader") ∷ listed k.Sym space (map symbol names)
 
+-- The pieces of a definition, given the spaces that its line begins with.
 abbrev pub definition : Def → Placed
 definition = fold-Def Placed definition_step
 

@@ -28,6 +28,7 @@ abbrev pub more_members : List Laid → List Piece
 more_members [] = []
 more_members (x ∷ xs) = comma ∷ (x space true ++ more_members xs)
 
+-- The pieces of a list's members with commas between.
 abbrev pub members : List ℕ → List Laid → List Piece
 members gap [] = []
 members gap (x ∷ xs) = x gap true ++ more_members xs
@@ -36,14 +37,17 @@ members gap (x ∷ xs) = x gap true ++ more_members xs
 abbrev pub pair : List ℕ → Laid × Laid → List Piece
 pair gap p = p.0 gap true ++ (mark space op.Arrow (codes "=>") ∷ p.1 space true)
 
+-- The pieces of the pairs behind the first, a comma before each.
 abbrev pub more_pairs : List (Laid × Laid) → List Piece
 more_pairs [] = []
 more_pairs (p ∷ ps) = comma ∷ (pair space p ++ more_pairs ps)
 
+-- The pieces of a hash's pairs with commas between.
 abbrev pub pairs : List (Laid × Laid) → List Piece
 pairs [] = []
 pairs (p ∷ ps) = pair [] p ++ more_pairs ps
 
+-- The pieces of a call's arguments in parentheses, or none.
 abbrev pub arguments : List Laid → List Piece
 arguments [] = []
 arguments (x ∷ xs) = open_paren [] ∷ (members [] (x ∷ xs) ++ close_paren ∷ [])
@@ -57,6 +61,7 @@ call_on on called args gap inside =
     (λ g. on g true ++ (mark space (op_of called) called ∷ members space args)) gap inside
     else on gap true ++ (dot ∷ name [] called ∷ arguments args)))
 
+-- The pieces of a call: on self, an operator, an index, or behind a point.
 abbrev pub call_pieces : Option Laid → List ℕ → List Laid → Laid
 call_pieces None called args gap inside = name gap called ∷ open_paren [] ∷ (members [] args ++ close_paren ∷ [])
 call_pieces (Some on) called args gap inside = call_on on called args gap inside
@@ -65,6 +70,7 @@ call_pieces (Some on) called args gap inside = call_on on called args gap inside
 abbrev pub constant : List ℕ → ConstRef → List Piece
 constant gap c = if c.top then colons gap ∷ path [] c.path else path gap c.path
 
+-- One level of an expression's pieces.
 abbrev pub expression_step : Expr-F Laid (List Piece) → Laid
 expression_step e.Nil gap inside = name gap (codes "nil") ∷ []
 expression_step e.True gap inside = name gap (codes "true") ∷ []
@@ -90,13 +96,16 @@ expression_step (e.Choose a b c) gap inside =
     enclosed (λ g. a g true ++
     (mark space op.Ask (codes "?") ∷ (b space true ++ (mark space op.Colon (codes ":") ∷ c space true)))) gap inside
 
+-- One level of the pieces of a text's part.
 abbrev pub part_step : Part-F Laid (List Piece) → List Piece
 part_step (e.Plain text) = piece [] k.TextPiece (flat_map escaped text) ∷ []
 part_step (e.Inside x) = piece [] k.InsideOpen (35 ∷ 123 ∷ []) ∷ (x [] true ++ piece [] k.InsideClose (125 ∷ []) ∷ [])
 
+-- The pieces of an expression, given the white before it and whether it stands inside another one.
 abbrev pub expression : Expr → Laid
 expression = fold-Expr Laid (List Piece) expression_step part_step
 
+-- The pieces of a text's part.
 abbrev pub part : Part → List Piece
 part = fold-Part Laid (List Piece) expression_step part_step
 

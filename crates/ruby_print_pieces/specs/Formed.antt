@@ -17,12 +17,14 @@ pub data Form : Type 0 where
   pairs : Form
   parts : Bool → Form
 
+-- What a recursive type's proofs hold of each of its members.
 abbrev pub Held : Form → Type 0
 Held one = Expr
 Held some = List Expr
 Held pairs = List (Expr × Expr)
 Held (parts may_be_plain) = List Part
 
+-- A constant as texts have it: at least one name, each a constant name.
 abbrev pub IsConstant : ConstRef → Type 0
 IsConstant c = IsPath c.path
 

@@ -19,6 +19,7 @@ pub record Deed : Type 0 where
   pub path : Path
   pub act : Act
 
+-- What a definition does to a path, as marks tell it.
 abbrev pub deed : Path → Act → Deed
 deed path act = record { path = path; act = act }
 
@@ -38,6 +39,7 @@ IsInner false [] = ⊥
 IsInner false (n ∷ []) = Unit {0}
 IsInner false (n ∷ m ∷ ns) = ⊥
 
+-- A path as definitions have it: inside others it is one name.
 abbrev pub FormedPath : Path → List Name → Type 0
 FormedPath around names = IsPath names × IsInner (at_top around) names
 
@@ -60,6 +62,7 @@ pub data Form : Type 0 where
   definition : Form
   several_definitions : Form
 
+-- What a recursive type's proofs hold of each of its members.
 abbrev pub Held : Form → Type 0
 Held definition = Def
 Held several_definitions = List Def

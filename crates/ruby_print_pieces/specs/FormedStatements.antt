@@ -14,6 +14,7 @@ pub data Form : Type 0 where
   several : Form
   branches : Form
 
+-- What a recursive type's proofs hold of each of its members.
 abbrev pub Held : Form → Type 0
 Held simple = Stmt
 Held whole = Stmt

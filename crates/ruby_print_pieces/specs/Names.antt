@@ -36,6 +36,7 @@ abbrev pub EachConst : List (List ℕ) → Type 0
 EachConst [] = Unit {0}
 EachConst (n ∷ ns) = IsConstName n × EachConst ns
 
+-- A path of constant names, at least one.
 abbrev pub IsPath : List (List ℕ) → Type 0
 IsPath [] = ⊥
 IsPath (n ∷ ns) = IsConstName n × EachConst ns

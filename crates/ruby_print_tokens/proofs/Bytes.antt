@@ -34,6 +34,7 @@ use Rattle.ruby_print_tokens.proofs.BytesLevels.{printed-Plain, printed-Inside}
 use Rattle.ruby_print_tokens.proofs.BytesForms.{Gives, bytes-append, enclosed_bytes, infix_bytes, choice_bytes}
 use Rattle.ruby_print_tokens.proofs.BytesForms.{members_bytes, as_member, pairs_are, path_bytes, from, map_map, between}
 
+-- What is shown of the bytes of a formed expression's pieces, by its form.
 abbrev pub BytesAt : (f : Form) → Held f → Type 0
 BytesAt Formed.one x = (gap : List ℕ) (inside : Bool) → bytes_of (expression x gap inside) ≡ gap ++ printed x inside
 BytesAt Formed.some xs = AllByRecursion (λ x. Gives (λ gap. expression x gap true) (inner x)) xs
@@ -100,6 +101,7 @@ parts_bytes : (a : Part) (ps : List Part) → bytes_of (part a) ≡ printed_part
 parts_bytes a ps e h = bytes-append (part a) (flat_map part ps) ∙ ap (λ y. y ++ bytes_of (flat_map part ps)) e
     ∙ ap (λ y. printed_part a ++ y) h
 
+-- The pieces of each form have the bytes that are printed.
 pub bytes_at : {names : List Name} {f : Form} {x : Held f} → Formed names f x → BytesAt f x
 bytes_at Formed.is_nil = λ gap inside. from gap (laid-Nil gap inside) (append-nil _) (printed-Nil inside)
 bytes_at Formed.is_true = λ gap inside. from gap (laid-True gap inside) (append-nil _) (printed-True inside)
@@ -187,6 +189,7 @@ bytes_at (Formed.inside_part {x = x} {ps = ps} h g) =
     ∙ between [] (35 ∷ 123 ∷ []) (inner x) (125 ∷ []) (expression x [] true) _ (bytes_at h [] true) refl
     ∙ sym (printed-Inside x)) (bytes_at g)
 
+-- The pieces of an expression have the bytes that it is printed as.
 pub bytes_expression : {names : List Name} {x : Expr} → Formed names Formed.one x → (gap : List ℕ) (inside : Bool) →
     bytes_of (expression x gap inside) ≡ gap ++ printed x inside
 bytes_expression h = bytes_at h

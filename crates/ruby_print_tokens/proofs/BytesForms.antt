@@ -17,15 +17,18 @@ use Rattle.ruby_print_tokens.proofs.ExpressionsLevels.{infix_body, choice_body}
 abbrev pub Gives : (List ℕ → List Piece) → List ℕ → Type 0
 Gives x t = (gap : List ℕ) → bytes_of (x gap) ≡ gap ++ t
 
+-- The bytes of pieces one behind another are their bytes one behind another.
 pub bytes-append : (ps qs : List Piece) → bytes_of (ps ++ qs) ≡ bytes_of ps ++ bytes_of qs
 bytes-append ps qs = flat_map-append piece_bytes ps qs
 
+-- The pieces of an expression in parentheses have the bytes that are printed.
 pub enclosed_bytes : (x : List ℕ → List Piece) (t : List ℕ) → Gives x t → (gap : List ℕ) (inside : Bool) →
     bytes_of (enclosed x gap inside) ≡ gap ++ operation t inside
 enclosed_bytes x t h gap true = ap (λ y. (gap ++ 40 ∷ []) ++ y) (bytes-append (x []) (close_paren ∷ [])
     ∙ ap (λ y. y ++ 41 ∷ []) (h [])) ∙ append_assoc gap (40 ∷ []) (t ++ 41 ∷ [])
 enclosed_bytes x t h gap false = h gap ∙ ap (λ y. gap ++ y) (sym (append-nil t))
 
+-- The pieces of an operator have the bytes that are printed.
 pub infix_bytes : (a b : Laid) (o : Op) (t ta tb : List ℕ) → Gives (λ g. a g true) ta → Gives (λ g. b g true) tb →
     Gives (infix_body a o t b) (ta ++ (32 ∷ (t ++ (32 ∷ tb))))
 infix_bytes a b o t ta tb ha hb gap =
@@ -34,6 +37,7 @@ infix_bytes a b o t ta tb ha hb gap =
     ∙ ap (λ y. (gap ++ ta) ++ (32 ∷ (t ++ y))) (hb space)
     ∙ append_assoc gap ta _
 
+-- The pieces of a choice have the bytes that are printed.
 pub choice_bytes : (a b c : Laid) (ta tb tc : List ℕ) → Gives (λ g. a g true) ta → Gives (λ g. b g true) tb →
     Gives (λ g. c g true) tc →
     Gives (choice_body a b c) (ta ++ (codes " ? " ++ (tb ++ (codes " : " ++ tc))))
@@ -62,7 +66,7 @@ more_bytes f g (x ∷ xs) h =
     ∙ ap (λ y. y ++ bytes_of (more_members (map f xs))) (h.0 space)
     ∙ ap (λ y. 32 ∷ (g x ++ y)) (more_bytes f g xs h.1))
 
-pub some_bytes : {X : Type 0} (f : X → Laid) (g : X → List ℕ) (x : X) (xs : List X) →
+some_bytes : {X : Type 0} (f : X → Laid) (g : X → List ℕ) (x : X) (xs : List X) →
     AllByRecursion (λ x. Gives (λ gap. f x gap true) (g x)) (x ∷ xs) →
     Gives (λ gap. members gap (map f (x ∷ xs))) (joined (map g (x ∷ xs)))
 some_bytes f g x xs h gap =
@@ -72,6 +76,7 @@ some_bytes f g x xs h gap =
     ∙ append_assoc gap (g x) _
     ∙ ap (λ y. gap ++ y) (sym (joined_more (g x) (map g xs)))
 
+-- The pieces of members have the bytes that are printed.
 pub members_bytes : {X : Type 0} (f : X → Laid) (g : X → List ℕ) (xs : List X) →
     AllByRecursion (λ x. Gives (λ gap. f x gap true) (g x)) xs → bytes_of (members [] (map f xs)) ≡ joined (map g xs)
 members_bytes f g [] h = refl
@@ -86,6 +91,7 @@ more_pairs_are : {X : Type 0} (f : X → Laid × Laid) (xs : List X) →
 more_pairs_are f [] = refl
 more_pairs_are f (x ∷ xs) = ap (λ y. comma ∷ (pair space (f x) ++ y)) (more_pairs_are f xs)
 
+-- The pieces of pairs are those of members, each a key, an arrow and a value.
 pub pairs_are : {X : Type 0} (f : X → Laid × Laid) (xs : List X) →
     pairs (map f xs) ≡ members [] (map (λ x. as_member (f x)) xs)
 pairs_are f [] = refl
@@ -97,15 +103,18 @@ path_more_bytes : (n : List ℕ) (ns : List (List ℕ)) → n ++ bytes_of (path_
 path_more_bytes n [] = append-nil n
 path_more_bytes n (m ∷ ns) = ap (λ y. n ++ (58 ∷ 58 ∷ y)) (path_more_bytes m ns)
 
+-- The pieces of a path have the bytes that are printed.
 pub path_bytes : (n : List ℕ) (ns : List (List ℕ)) → Gives (λ gap. path gap (n ∷ ns)) (path_text (n ∷ ns))
 path_bytes n ns gap = append_assoc gap n _ ∙ ap (λ y. gap ++ y) (path_more_bytes n ns)
 
 -- ---- steps of a proof
 
+-- Equal pieces have equal bytes: turns one equation into another.
 pub from : {ps qs : List Piece} {t u : List ℕ} (gap : List ℕ) → ps ≡ qs → bytes_of qs ≡ gap ++ t → u ≡ t →
     bytes_of ps ≡ gap ++ u
 from gap e h f = ap bytes_of e ∙ h ∙ ap (λ y. gap ++ y) (sym f)
 
+-- Two maps one behind another are one.
 pub map_map : {X Y Z : Type 0} (f : Y → Z) (g : X → Y) (xs : List X) → map f (map g xs) ≡ map (λ x. f (g x)) xs
 map_map f g [] = refl
 map_map f g (x ∷ xs) = ap (λ y. f (g x) ∷ y) (map_map f g xs)

@@ -249,6 +249,7 @@ flows_at (Formed.plain_part {text = t} {ps = ps} n u h) =
 flows_at (Formed.inside_part {x = x} {ps = ps} h g) =
     (inside_flow x (flat_map part ps) (flows_at h true) (flows_at g).0, λ e. inside_no_plain x (flat_map part ps))
 
+-- The law of expressions: the lexer finds their pieces.
 pub flows_expression : {names : List Name} {x : Expr} → Formed names Formed.one x →
     (gap : List ℕ) (inside : Bool) (s : State) (n : ℕ) (rest : List ℕ) → Begins s gap → stops rest ≡ true →
     (end : State) × Flows rest s n (expression x gap inside) end × Ends s end

@@ -31,6 +31,7 @@ abbrev pub Body : (List ℕ → List Piece) → Type 0
 Body x = (gap : List ℕ) (s : State) (n : ℕ) (rest : List ℕ) → Begins s gap → stops rest ≡ true →
     Flown rest s n (x gap) (Ends s)
 
+-- Equal pieces are found alike.
 pub as_body : {x y : List ℕ → List Piece} → ((gap : List ℕ) → x gap ≡ y gap) → Body y → Body x
 as_body e f gap s n rest h g = subst (λ ps. Flown rest s n ps (Ends s)) (sym (e gap)) (f gap s n rest h g)
 
@@ -46,6 +47,7 @@ Kept ps = (s : State) (n : ℕ) (rest : List ℕ) → Begins s [] → stops rest
 keeps : {s : State} (end : State) → Ends s end → Keeps s end
 keeps end e = record { opens = e.opens; brackets = e.brackets }
 
+-- A body without white before it is kept inside brackets.
 pub kept : (x : List ℕ → List Piece) → Body x → Kept (x [])
 kept x f s n rest h g = so_also keeps (f [] s n rest h g)
 
@@ -55,12 +57,14 @@ pub record Sits (s : State) : Type 0 where
   pub after : s.after ≡ a.Value
   pub no_colon : (s.before == 58) ≡ false
 
-pub sits : {s end : State} → text_at s.opens ≡ None → Ends s end → Sits end
+sits : {s end : State} → text_at s.opens ≡ None → Ends s end → Sits end
 sits c e = record { in_code = ap text_at e.opens ∙ c; after = e.after; no_colon = e.no_colon }
 
+-- A state ends in itself.
 pub ends_here : {s : State} → Sits s → Ends s s
 ends_here h = record { opens = refl; brackets = refl; after = h.after; no_colon = h.no_colon }
 
+-- Where nothing opens or closes, what ends behind ends here.
 pub ends_on : {s mid : State} → mid.opens ≡ s.opens → mid.brackets ≡ s.brackets → (end : State) → Ends mid end →
     Ends s end
 ends_on e f end h = record { opens = h.opens ∙ e; brackets = h.brackets ∙ f; after = h.after; no_colon = h.no_colon }
@@ -75,7 +79,7 @@ pub record IsClose (x : Op) (b : ℕ) : Type 0 where
   pub no_colon : (b == 58) ≡ false
   pub stop : stops_by b ≡ true
 
-pub paren : IsClose op.CloseParen 41
+paren : IsClose op.CloseParen 41
 paren = record {
   lone = lone_close_paren;
   opens = λ xs. refl;
@@ -85,6 +89,7 @@ paren = record {
   stop = refl;
 }
 
+-- `]` closes an array or an index.
 pub bracket : IsClose op.CloseBracket 93
 bracket = record {
   lone = lone_close_bracket;
@@ -118,7 +123,7 @@ pub record Opened (s mid : State) : Type 0 where
   pub no_value : ends_value mid.after ≡ false
   pub no_colon : (mid.before == 58) ≡ false
 
-pub group_rest : {x : Op} {b : ℕ} → IsClose x b → (ps : List Piece) → Kept ps →
+group_rest : {x : Op} {b : ℕ} → IsClose x b → (ps : List Piece) → Kept ps →
     (s mid : State) (n : ℕ) (rest : List ℕ) → text_at s.opens ≡ None → Opened s mid →
     Flown rest mid n (ps ++ mark [] x (b ∷ []) ∷ []) (Ends s)
 group_rest {x = x} {b = b} c ps f s mid n rest h g =
@@ -139,6 +144,7 @@ paren_group ps f s n rest h =
     one_goes (open_paren []) (ps ++ close_paren ∷ []) tt (lone_lexeme lone_open_paren s _ h) (omega arith) refl
     (group_rest paren ps f s _ _ rest h (record { opens = refl; brackets = refl; no_value = refl; no_colon = refl }))
 
+-- A group in brackets leaves what is open as it was.
 pub bracket_group : (ps : List Piece) → Kept ps → (s : State) (n : ℕ) (rest : List ℕ) → text_at s.opens ≡ None →
     Flown rest s n (open_bracket [] ∷ (ps ++ close_bracket ∷ [])) (Ends s)
 bracket_group ps f s n rest h =
@@ -146,13 +152,14 @@ bracket_group ps f s n rest h =
     (group_rest bracket ps f s _ _ rest h (record { opens = refl; brackets = refl; no_value = refl; no_colon = refl }))
 
 -- at the front of an expression
-pub paren_body : (ps : List Piece) → Kept ps → Body (λ gap. open_paren gap ∷ (ps ++ close_paren ∷ []))
+paren_body : (ps : List Piece) → Kept ps → Body (λ gap. open_paren gap ∷ (ps ++ close_paren ∷ []))
 paren_body ps f gap s n rest h g =
     begin gap (k.Op op.OpenParen) 40 [] (ps ++ close_paren ∷ []) h refl
     (λ z r. lone_lexeme lone_open_paren z _ r.in_code) refl
     (group_rest paren ps f s _ _ rest h.in_code
     (record { opens = refl; brackets = refl; no_value = refl; no_colon = refl }))
 
+-- An array, given the white before it, is found.
 pub bracket_body : (ps : List Piece) → Kept ps → Body (λ gap. open_bracket gap ∷ (ps ++ close_bracket ∷ []))
 bracket_body ps f gap s n rest h g =
     begin gap (k.Op op.OpenBracket) 91 [] (ps ++ close_bracket ∷ []) h refl
@@ -173,6 +180,7 @@ close_brace_goes s mid n rest e f =
           refl;
     }))
 
+-- A hash, given the white before it, is found.
 pub brace_body : (ps : List Piece) → Kept ps →
     Body (λ gap. mark gap op.OpenBrace (codes "{") ∷ (ps ++ mark [] op.CloseBrace (codes "}") ∷ []))
 brace_body ps f gap s n rest h g =
@@ -182,6 +190,7 @@ brace_body ps f gap s n rest h g =
     (f _ _ (125 ∷ rest) (record { spaces = tt; in_code = refl; no_value = refl; no_colon = λ e. refl }) refl)
     (λ end e. close_brace_goes s end _ rest e.opens e.brackets))
 
+-- An expression in parentheses, given the white before it, is found.
 pub enclosed_body : (x : List ℕ → List Piece) → Body x → (inside : Bool) → Body (λ gap. enclosed x gap inside)
 enclosed_body x f true = paren_body (x []) (kept x f)
 enclosed_body x f false = f
@@ -204,6 +213,7 @@ infix_goes {x = x} {t = t} i s n rest u ps c e f =
     (subst (λ y. lexeme (state_past space s) (t ++ y) ≡ l.Token (k.Op x) (length t)) (sym e)
     (infix_lexeme i (state_past space s) u c)) (some_first i) refl f
 
+-- An operator is found.
 pub infix_flow : (x y : Laid) (p : Op) (t ty : List ℕ) → IsInfix p t → Body (λ g. x g true) → Body (λ g. y g true) →
     Gives (λ g. y g true) ty → Body (infix_body x p t y)
 infix_flow x y p t ty i fx fy gy gap s n rest h g =
@@ -221,6 +231,7 @@ infix_flow x y p t ty i fx fy gy gap s n rest h g =
       no_colon = λ z. cc;
     }) g)))
 
+-- A choice is found.
 pub choice_flow : (x y z : Laid) (ty tz : List ℕ) → Body (λ g. x g true) → Body (λ g. y g true) →
     Body (λ g. z g true) → Gives (λ g. y g true) ty → Gives (λ g. z g true) tz → Body (choice_body x y z)
 choice_flow x y z ty tz fx fy fz gy gz =
@@ -229,6 +240,7 @@ choice_flow x y z ty tz fx fy fz gy gz =
 
 -- ---- an operator before
 
+-- A unary minus is found.
 pub minus_flow : (x : Laid) (t : List ℕ) → Body (λ g. x g true) → Gives (λ g. x g true) t →
     Body (λ g. mark g op.Minus (codes "-") ∷ x space true)
 minus_flow x t f e gap s n rest h g =
@@ -246,6 +258,7 @@ pub record Starts (t : List ℕ) : Type 0 where
   pub no_assign : (first == 61) ≡ false
   pub no_match : (first == 126) ≡ false
 
+-- `!` is found.
 pub not_flow : (x : Laid) (t : List ℕ) → Body (λ g. x g true) → Gives (λ g. x g true) t → Starts t →
     Body (λ g. mark g op.Not (codes "!") ∷ x [] true)
 not_flow x t f e w gap s n rest h g =
@@ -272,12 +285,13 @@ more_flow f (x ∷ xs) h s n rest w g =
     (stops_more (map f xs) rest g))
     (λ mid e. so_also (ends_on e.opens e.brackets) (more_flow f xs h.1 mid _ rest (sits w.in_code e) g)))
 
-pub some_flow : {X : Type 0} (f : X → Laid) (x : X) (xs : List X) →
+some_flow : {X : Type 0} (f : X → Laid) (x : X) (xs : List X) →
     AllByRecursion (λ x. Body (λ g. f x g true)) (x ∷ xs) → Body (λ gap. members gap (map f (x ∷ xs)))
 some_flow f x xs h gap s n rest w g =
     and_then (f x gap true) (more_members (map f xs)) (h.0 gap s n _ w (stops_more (map f xs) rest g))
     (λ mid e. so_also (ends_on e.opens e.brackets) (more_flow f xs h.1 mid _ rest (sits w.in_code e) g))
 
+-- Members are found inside brackets.
 pub members_kept : {X : Type 0} (f : X → Laid) (xs : List X) → AllByRecursion (λ x. Body (λ g. f x g true)) xs →
     Kept (members [] (map f xs))
 members_kept f [] h s n rest w g = stay (record { opens = refl; brackets = refl })

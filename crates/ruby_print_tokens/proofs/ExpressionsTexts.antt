@@ -30,15 +30,19 @@ InText ps = (s : State) (n : ℕ) (rest : List ℕ) → text_at s.opens ≡ Some
 abbrev pub NoPlain : List Piece → Type 0
 NoPlain ps = (rest : List ℕ) → piece_len (bytes_of ps ++ 34 ∷ rest) ≡ 0
 
+-- The closing quote.
 abbrev pub close_text : Piece
 close_text = piece [] k.TextClose (34 ∷ [])
 
+-- The piece `#{`.
 abbrev pub open_inside : Piece
 open_inside = piece [] k.InsideOpen (35 ∷ 123 ∷ [])
 
+-- The piece `}` that ends an inside part.
 abbrev pub close_inside : Piece
 close_inside = piece [] k.InsideClose (125 ∷ [])
 
+-- A text, given the white before it, is found.
 pub text_body : (ps : List Piece) → InText ps → Body (λ gap. piece gap k.TextOpen (34 ∷ []) ∷ (ps ++ close_text ∷ []))
 text_body ps f gap s n rest h g =
     begin gap k.TextOpen 34 [] (ps ++ close_text ∷ []) h refl (λ z r. open_text_lexeme z _ r.in_code) refl
@@ -50,9 +54,11 @@ keeps_on : {s mid : State} → mid.opens ≡ s.opens → mid.brackets ≡ s.brac
     Keeps s end
 keeps_on e f end h = record { opens = h.opens ∙ e; brackets = h.brackets ∙ f }
 
+-- A text without parts is found.
 pub no_parts_flow : InText []
 no_parts_flow s n rest h = stay (record { opens = refl; brackets = refl })
 
+-- A plain part before others that begin with none is found.
 pub plain_flow : (t : List ℕ) (ps : List Piece) → t ≢ [] → NoPlain ps → InText ps → InText (part (p.Plain t) ++ ps)
 plain_flow t ps n e f s m rest h =
     subst (λ y. Flown (34 ∷ rest) s m (y ++ ps) (Keeps s)) (sym (part-Plain t))
@@ -75,6 +81,7 @@ inside_goes x ps fx f s mid n rest h e i v c =
     (omega arith) refl
     (so_also (keeps_on (ap (drop 1) y) (w.brackets ∙ i)) (f _ _ rest (ap (λ xs. text_at (drop 1 xs)) y ∙ h))))
 
+-- An inside part before others is found.
 pub inside_flow : (x : Expr) (ps : List Piece) → Body (λ g. expression x g true) → InText ps →
     InText (part (p.Inside x) ++ ps)
 inside_flow x ps fx f s n rest h =
@@ -85,5 +92,6 @@ inside_flow x ps fx f s n rest h =
     (sym (append_assoc (expression x [] true) (close_inside ∷ []) ps))
     (inside_goes x ps fx f s (state_behind n open_inside s) (behind_piece n open_inside) rest h refl refl refl refl)))
 
+-- An inside part is no plain one.
 pub inside_no_plain : (x : Expr) (ps : List Piece) → NoPlain (part (p.Inside x) ++ ps)
 inside_no_plain x ps rest = subst (λ y. piece_len (bytes_of (y ++ ps) ++ 34 ∷ rest) ≡ 0) (sym (part-Inside x)) refl

@@ -54,10 +54,12 @@ local_of b t h i v gap s n rest w g =
           name_last b t h i;
     })
 
+-- A reserved word, given the white before it, is found.
 pub word_body : (b : ℕ) (t : List ℕ) → is_lower b ≡ true → Every is_word t → is_valueless (b ∷ t) ≡ false →
     Body (λ gap. name gap (b ∷ t) ∷ [])
 word_body b t h e v = local_of b t h (bare e) v
 
+-- A local variable, given the white before it, is found.
 pub local_body : (n : List ℕ) → IsMethodName n → Body (λ gap. name gap n ∷ [])
 local_body n i =
     let f = name_of i.spelled in
@@ -65,6 +67,7 @@ local_body n i =
     (local_of f.first f.tail f.lower f.shape
     (no_valueless (f.first ∷ f.tail) (ap name_sign (sym f.whole) ∙ i.free)))
 
+-- An instance variable, given the white before it, is found.
 pub ivar_body : (n : List ℕ) → IsPlainName n → Body (λ gap. piece gap k.Ivar (64 ∷ n) ∷ [])
 ivar_body _ (plain_name {b = b} {t = t} h e) gap s n rest w g =
     alone gap k.Ivar 64 (b ∷ t) s n rest w refl
@@ -105,6 +108,7 @@ symbol_const_of b t h e gap s n rest w g =
           word_last 58 b t (word_of_upper b h) e;
     })
 
+-- A symbol, given the white before it, is found.
 pub symbol_body : (n : List ℕ) → IsSymbolName n → Body (λ gap. piece gap k.Sym (58 ∷ n) ∷ [])
 symbol_body n (of_name i) = let f = name_of i in
     subst (λ m. Body (λ gap. piece gap k.Sym (58 ∷ m) ∷ [])) (sym f.whole) (symbol_of f.first f.tail f.lower f.shape)
@@ -113,6 +117,7 @@ symbol_body _ (of_constant (capital {b = b} {t = t} h e)) = symbol_const_of b t 
 small_number : (text : List ℕ) → is_in_range text ≡ true → is_big k.Int text ≡ false
 small_number text h = rw h refl
 
+-- A number, given the white before it, is found.
 pub number_body : (text : List ℕ) → is_in_range text ≡ true → IsNumber text → Body (λ gap. piece gap k.Int text ∷ [])
 number_body text i j =
     let f = number_of text j in
@@ -174,6 +179,7 @@ const_of top [] h = absurd h
 const_of true (m ∷ ns) h = top_body m ns h.0 h.1
 const_of false (m ∷ ns) h = path_body m ns h.0 h.1
 
+-- A constant name, given the white before it, is found.
 pub const_body : (c : ConstRef) → IsPath c.path → Body (λ gap. constant gap c)
 const_body c h = const_of c.top c.path h
 
@@ -186,6 +192,7 @@ own_of b t ps h i f gap s n rest w g =
     (λ z r. name_lexeme z b t _ r.in_code h i (ends_by_paren _)) refl
     (so_also (ends_on refl refl) (paren_group ps f _ _ rest w.in_code))
 
+-- A call on self, given the white before it, is found.
 pub own_body : (n : List ℕ) (ps : List Piece) → IsMethodName n → Kept ps →
     Body (λ gap. name gap n ∷ open_paren [] ∷ (ps ++ close_paren ∷ []))
 own_body n ps i f = let d = name_of i.spelled in
@@ -243,6 +250,7 @@ word_call x n args gap inside w =
     let e3 : is_operator n ≡ false = w.no_operator in
     rw (e1, e2, e3) refl
 
+-- A call behind a point, given the white before it, is found.
 pub word_call_body : {X : Type 0} (x : Laid) (f : X → Laid) (n : List ℕ) (xs : List X) → IsMethodName n →
     IsWordCall n → Body (λ g. x g true) → AllByRecursion (λ x. Body (λ g. f x g true)) xs → (inside : Bool) →
     Body (λ gap. call_on x n (map f xs) gap inside)
@@ -262,11 +270,13 @@ operator_call x y n gap inside w =
     rw (e1, e2, e3) (ap (λ z. enclosed (λ g. x g true ++ (mark space (op_of n) n ∷ z)) gap inside)
     (append-nil (y space true)))
 
+-- An operator, given the white before it, is found.
 pub operator_body : (x y : Laid) (n ty : List ℕ) → IsOperatorCall n → IsInfix (op_of n) n → Body (λ g. x g true) →
     Body (λ g. y g true) → Gives (λ g. y g true) ty → (inside : Bool) → Body (λ gap. call_on x n (y ∷ []) gap inside)
 operator_body x y n ty w i hx hy gy inside = as_body (λ gap. operator_call x y n gap inside w)
     (enclosed_body (infix_body x (op_of n) n y) (infix_flow x y (op_of n) n ty i hx hy gy) inside)
 
+-- An index, given the white before it, is found.
 pub index_body : (x y : Laid) → Body (λ g. x g true) → Kept (members [] (y ∷ [])) →
     Body (λ gap. x gap true ++ (open_bracket [] ∷ (members [] (y ∷ []) ++ close_bracket ∷ [])))
 index_body x y hx hy gap s n rest w g =

@@ -85,15 +85,16 @@ print_is tree = flat_map-map (print_statements.line []) print.definition tree.de
 at_start : Fresh start
 at_start = record { code = record { opens = refl; brackets = refl; after = refl }; before = refl }
 
-pub printed_bytes : (tree : FileTree) → FormedFile tree → bytes_of (file_pieces tree) ≡ print.print tree
+printed_bytes : (tree : FileTree) → FormedFile tree → bytes_of (file_pieces tree) ≡ print.print tree
 printed_bytes tree f =
     ap bytes_of (sym (file_is tree)) ∙ lines_bytes (map definition tree.defs) (map print.definition tree.defs) []
     (says f.formed) ∙ print_is tree
 
-pub utf8_printed : (tree : FileTree) → FormedFile tree → IsUtf8 (print.print tree)
+utf8_printed : (tree : FileTree) → FormedFile tree → IsUtf8 (print.print tree)
 utf8_printed tree f = subst IsUtf8 (print_is tree)
     (utf8_lines (map definition tree.defs) (map print.definition tree.defs) [] (says f.formed) tt)
 
+-- The law of this crate: the bytes of a printed file are cut into its pieces.
 pub formed_is_lexed : (tree : FileTree) → FormedFile tree →
     Lexes (print.print tree) (done (tokens_at 0 (file_pieces tree)))
     × (words_of (print.print tree) (tokens_at 0 (file_pieces tree)) ≡ words_at 0 (file_pieces tree))

@@ -93,6 +93,7 @@ head_bytes indent w ns qs t h e =
     ∙ ap (λ b. b ++ bytes_of qs) (path_bytes ns space h))
     ∙ ap (λ b. indent ++ (w ++ (space ++ (path_text ns ++ b)))) e
 
+-- A module on its lines is found, and has the bytes that are printed.
 pub module_item : (ns : List (List ℕ)) (xs : List Placed) (ys : List print_statements.Placed) → IsPath ns →
     EachItem xs ys → Item (definition_step (d.Module ns xs)) (print.definition_step (d.Module ns ys))
 module_item ns xs ys h g = record {
@@ -115,6 +116,7 @@ parent_leads : (p : Option ConstRef) (xs : List Placed) (indent rest : List ℕ)
 parent_leads None xs indent rest = refl
 parent_leads (Some c) xs indent rest = refl
 
+-- A class on its lines is found, and has the bytes that are printed.
 pub class_item : (ns : List (List ℕ)) (p : Option ConstRef) (xs : List Placed) (ys : List print_statements.Placed) →
     IsPath ns → IsParent p → EachItem xs ys →
     Item (definition_step (d.Class ns p xs)) (print.definition_step (d.Class ns p ys))
@@ -134,6 +136,7 @@ class_item ns p xs ys h hp g = record {
 
 -- ---- constants
 
+-- A constant's assignment on its lines is found, and has the bytes that are printed.
 pub assign_item : {names : List Name} {n : List ℕ} {x : Expr} → IsConstName n → Formed names one x →
     Item (definition_step (d.Assign n x)) (print.definition_step (d.Assign n x))
 assign_item {n = n} p h = record {
@@ -170,6 +173,7 @@ method_bytes single n ps xs ys indent g =
     head true = ap (λ b. codes "def self." ++ b) behind_name
     head false = ap (λ b. codes "def " ++ b) behind_name
 
+-- A method on its lines is found, and has the bytes that are printed.
 pub method_item : (single : Bool) (n : List ℕ) (ps : List Name) (ss : List Stmt) → IsMethodName n →
     FormedParameters [] ps → EachItem (map statement ss) (map print_statements.statement ss) →
     Item (definition_step (d.Method single n ps ss)) (print.definition_step (d.Method single n ps ss))
@@ -202,6 +206,7 @@ method_item single n ps ss h hp g = record {
 
 -- ---- `include` and `attr_reader`
 
+-- An `include` on its lines is found, and has the bytes that are printed.
 pub include_item : (c : ConstRef) → IsConstant c →
     Item (definition_step (d.Include c)) (print.definition_step (d.Include c))
 include_item c h = record {
@@ -222,6 +227,7 @@ utf8_symbols : (ns : List Name) → AllByRecursion IsSymbolName ns → AllByRecu
 utf8_symbols [] h = tt
 utf8_symbols (n ∷ ns) h = ((good_symbol h.0).utf8, utf8_symbols ns h.1)
 
+-- Readers on its lines is found, and has the bytes that are printed.
 pub readers_item : (n : Name) (ns : List Name) → AllByRecursion IsSymbolName (n ∷ ns) →
     Item (definition_step (d.Readers (n ∷ ns))) (print.definition_step (d.Readers (n ∷ ns)))
 readers_item n ns h = record {

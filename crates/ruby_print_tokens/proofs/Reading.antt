@@ -22,11 +22,13 @@ use Rattle.ruby_print_tokens.specs.Flows.{tokens_at}
 
 -- ---- the bytes of pieces
 
+-- The bytes of pieces one behind another are their bytes one behind another.
 pub bytes_append : (ps qs : List Piece) → bytes_of (ps ++ qs) ≡ bytes_of ps ++ bytes_of qs
 bytes_append ps qs = flat_map-append piece_bytes ps qs
 
 -- ---- one run of pieces behind another
 
+-- Pieces that are found one behind another are found together.
 pub flows_append : {rest : List ℕ} {qs : List Piece} {s mid end : State} {n : ℕ} {ps : List Piece} →
     Flows (bytes_of qs ++ rest) s n ps mid → Flows rest mid (place_behind n ps) qs end → Flows rest s n (ps ++ qs) end
 flows_append stays g = g
@@ -46,7 +48,7 @@ read_past v s n (b ∷ g) bs h =
     (take_front (b ∷ g) bs)
     ∙ ap (read v (state_past (b ∷ g) s) (n + length (b ∷ g)) 0) (drop_front (b ∷ g) bs)
 
-pub flows_read : {s end : State} {n : ℕ} {ps : List Piece} → Flows [] s n ps end → end.opens ≡ [] →
+flows_read : {s end : State} {n : ℕ} {ps : List Piece} → Flows [] s n ps end → end.opens ≡ [] →
     read true s n 0 (bytes_of ps) ≡ done (tokens_at n ps)
 flows_read (stays {s = s} {n = n}) o = rw o
 flows_read (goes {s = s} {n = n} {p = p} {ps = ps} gap lex some big f) o =

@@ -55,5 +55,6 @@ words_from front (p ∷ ps) =
     (tokens_at (behind_piece (length front) p) ps)) here
     ∙ ap (λ x. word_at (length front) p ∷ x) rest
 
+-- The words of pieces' tokens are the pieces' words.
 pub words_of_pieces : (ps : List Piece) → words_of (bytes_of ps) (tokens_at 0 ps) ≡ words_at 0 ps
 words_of_pieces ps = words_from [] ps

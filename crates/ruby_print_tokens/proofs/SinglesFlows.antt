@@ -24,6 +24,7 @@ joined : (p : List ℕ) (ps qs : List Piece) (rest : List ℕ) → p ++ (bytes_o
 joined p ps qs rest = ap (λ y. p ++ y) (sym (append_assoc (bytes_of ps) (bytes_of qs) rest)
     ∙ ap (λ y. y ++ rest) (sym (bytes-append ps qs)))
 
+-- Pieces that are found one behind another are found together.
 pub append : {rest : List ℕ} (qs : List Piece) {s mid end : State} {n : ℕ} {ps : List Piece} →
     Flows (bytes_of qs ++ rest) s n ps mid → Flows rest mid (place_behind n ps) qs end → Flows rest s n (ps ++ qs) end
 append qs stays g = g
@@ -38,18 +39,22 @@ pub record Flown (rest : List ℕ) (s : State) (n : ℕ) (ps : List Piece) (P : 
   pub flows : Flows rest s n ps end
   pub so : P end
 
+-- No pieces are found anywhere.
 pub stay : {rest : List ℕ} {s : State} {n : ℕ} {P : State → Type 0} → P s → Flown rest s n [] P
 stay {s = s} h = record { end = s; flows = stays; so = h }
 
+-- What is found behind what was found is found with it.
 pub and_then : {rest : List ℕ} {s : State} {n : ℕ} {P Q : State → Type 0} (ps qs : List Piece) →
     Flown (bytes_of qs ++ rest) s n ps P →
     ((mid : State) → P mid → Flown rest mid (place_behind n ps) qs Q) → Flown rest s n (ps ++ qs) Q
 and_then ps qs f g = let h = g f.end f.so in record { end = h.end; flows = append qs f.flows h.flows; so = h.so }
 
+-- What follows of the state behind is known there too.
 pub so_also : {rest : List ℕ} {s : State} {n : ℕ} {ps : List Piece} {P Q : State → Type 0} →
     ((end : State) → P end → Q end) → Flown rest s n ps P → Flown rest s n ps Q
 so_also f h = record { end = h.end; flows = h.flows; so = f h.end h.so }
 
+-- A piece that is found comes before others.
 pub one_goes : {rest : List ℕ} {s : State} {n : ℕ} {P : State → Type 0} (p : Piece) (ps : List Piece) →
     PassesGap s p.gap (p.text ++ (bytes_of ps ++ rest)) →
     lexeme (behind_gap p.gap s) (p.text ++ (bytes_of ps ++ rest)) ≡ l.Token p.kind (length p.text) →
@@ -59,6 +64,7 @@ one_goes p ps a b c d h = record { end = h.end; flows = goes a b c d h.flows; so
 
 -- ---- white before a piece
 
+-- A run of bytes that pass ends where one doesn't.
 pub exact_front : (p : ℕ → Bool) (t r : List ℕ) → Every p t → next_passes p r ≡ false → prefix_len p (t ++ r) ≡ length t
 exact_front p [] [] h e = refl
 exact_front p [] (b ∷ r) h e = rw e refl
@@ -71,6 +77,7 @@ spaces_white : (gap : List ℕ) → IsSpaces gap → Every is_white gap
 spaces_white [] h = tt
 spaces_white (b ∷ bs) h = (rw h.0 refl, spaces_white bs h.1)
 
+-- White before a piece is passed over.
 pub passes : (s : State) (gap bytes : List ℕ) → IsSpaces gap → text_at s.opens ≡ None →
     next_passes is_white bytes ≡ false → PassesGap s gap bytes
 unfolding lexeme
@@ -80,7 +87,7 @@ passes s (b ∷ bs) bytes h c e =
     let i : prefix_len is_white (bs ++ bytes) ≡ length bs = exact_front is_white bs bytes (spaces_white bs h.1) e in
     rw (b_is, c) (ap l.Gap (omega (arith, i)))
 
-pub opens_behind : (gap : List ℕ) (s : State) → (behind_gap gap s).opens ≡ s.opens
+opens_behind : (gap : List ℕ) (s : State) → (behind_gap gap s).opens ≡ s.opens
 opens_behind [] s = refl
 opens_behind (b ∷ bs) s = refl
 
@@ -88,18 +95,20 @@ after_behind : (gap : List ℕ) (s : State) → (behind_gap gap s).after ≡ s.a
 after_behind [] s = refl
 after_behind (b ∷ bs) s = refl
 
-pub same_after : (kind : TokenKind) (text : List ℕ) (m : ℕ) (gap : List ℕ) (s : State) →
+same_after : (kind : TokenKind) (text : List ℕ) (m : ℕ) (gap : List ℕ) (s : State) →
     state_after kind text m (behind_gap gap s) ≡ state_after kind text m s
 same_after kind text m [] s = refl
 same_after kind text m (b ∷ bs) s = refl
 
 -- ---- the last byte
 
+-- The last byte of a longer text is that of its rest.
 pub last_more : (b c : ℕ) (t : List ℕ) → last_of (b ∷ c ∷ t) ≡ last_of (c ∷ t)
 last_more b c t =
     let e : suc (suc (length t)) - 1 ≡ suc (suc (length t) - 1) = omega arith in
     ap (slice_index (b ∷ c ∷ t)) e
 
+-- The last byte passes where all do.
 pub last_passes : (p : ℕ → Bool) (b : ℕ) (t : List ℕ) → p b ≡ true → Every p t → p (last_of (b ∷ t)) ≡ true
 last_passes p b [] h e = h
 last_passes p b (c ∷ t) h e = ap p (last_more b c t) ∙ last_passes p c t e.0 e.1
@@ -121,6 +130,7 @@ colon_behind : (gap : List ℕ) (s : State) → IsSpaces gap → (gap ≡ [] →
 colon_behind [] s h g = g refl
 colon_behind (b ∷ bs) s h g = rw (last_space b bs h) refl
 
+-- Behind its white a piece may begin.
 pub ready : (gap : List ℕ) (s : State) → Begins s gap → Ready (behind_gap gap s)
 ready gap s h = record {
   in_code = ap text_at (opens_behind gap s) ∙ h.in_code;

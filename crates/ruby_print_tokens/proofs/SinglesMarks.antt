@@ -24,6 +24,7 @@ pub data IsLone : Op → ℕ → Type 0 where
   lone_open_brace : IsLone op.OpenBrace 123
   lone_comma : IsLone op.Comma 44
 
+-- The lexer takes a mark of one byte as one token.
 pub lone_lexeme : {o : Op} {b : ℕ} → IsLone o b → (s : State) (r : List ℕ) → text_at s.opens ≡ None →
     lexeme s (b ∷ r) ≡ l.Token (k.Op o) 1
 unfolding lexeme operator_at
@@ -34,11 +35,13 @@ lone_lexeme lone_close_bracket s r h = rw h refl
 lone_lexeme lone_open_brace s r h = rw h refl
 lone_lexeme lone_comma s r h = rw h refl
 
+-- The lexer takes `}` outside texts as one token.
 pub close_brace_lexeme : (s : State) (r : List ℕ) → text_at s.opens ≡ None → in_inside s.opens ≡ false →
     lexeme s (125 ∷ r) ≡ l.Token (k.Op op.CloseBrace) 1
 unfolding lexeme operator_at
 close_brace_lexeme s r h g = rw (h, g) refl
 
+-- The lexer takes `}` that ends an inside part as one token.
 pub inside_close_lexeme : (s : State) (r : List ℕ) → text_at s.opens ≡ None → in_inside s.opens ≡ true →
     lexeme s (125 ∷ r) ≡ l.Token k.InsideClose 1
 unfolding lexeme operator_at
@@ -47,11 +50,13 @@ inside_close_lexeme s r h g = rw (h, g) refl
 turned : (c d : ℕ) → (c == d) ≡ false → (d == c) ≡ false
 turned c d h = grind (arith, nat_tests)
 
+-- The lexer takes `.` as one token.
 pub dot_lexeme : (s : State) (c : ℕ) (r : List ℕ) → text_at s.opens ≡ None → (c == 46) ≡ false →
     lexeme s (46 ∷ c ∷ r) ≡ l.Token (k.Op op.Dot) 1
 unfolding lexeme operator_at
 dot_lexeme s c r h g = let e : (46 == c) ≡ false = turned c 46 g in rw (h, e) refl
 
+-- The lexer takes `!` as one token.
 pub not_lexeme : (s : State) (c : ℕ) (r : List ℕ) → text_at s.opens ≡ None → (c == 61) ≡ false → (c == 126) ≡ false →
     lexeme s (33 ∷ c ∷ r) ≡ l.Token (k.Op op.Not) 1
 unfolding lexeme operator_at
@@ -64,6 +69,7 @@ unfolding lexeme operator_at
 colons_by true s r h g = rw (h, g) refl
 colons_by false s r h g = rw (h, g) refl
 
+-- The lexer takes `::` as one token.
 pub colons_lexeme : (s : State) (r : List ℕ) → text_at s.opens ≡ None →
     lexeme s (58 ∷ 58 ∷ r) ≡ l.Token (k.Op op.Path) 2
 colons_lexeme s r h = colons_by (s.before == 58) s r h refl
@@ -82,6 +88,7 @@ unfolding lexeme operator_at
 minus_by true s r h g = rw (h, g) refl
 minus_by false s r h g = rw (h, g) refl
 
+-- The lexer takes an operator as one token.
 pub infix_lexeme : {o : Op} {t : List ℕ} → IsInfix o t → (s : State) (r : List ℕ) → text_at s.opens ≡ None →
     lexeme s (t ++ 32 ∷ r) ≡ l.Token (k.Op o) (length t)
 unfolding lexeme operator_at
@@ -115,6 +122,7 @@ on : {o : Op} (b : ℕ) (t : List ℕ) → after_op o ≡ a.Joins → ((xs : Lis
     ((m : ℕ) → brackets_op o m ≡ m) → is_white b ≡ false → GoesOn o (b ∷ t)
 on b t x y z w = record { joins = x; opens = y; brackets = z; first = b; others = t; whole = refl; dark = w }
 
+-- An operator between two sides lets the text go on.
 pub goes_on : {o : Op} {t : List ℕ} → IsInfix o t → GoesOn o t
 goes_on times = on _ _ refl (λ xs. refl) (λ m. refl) refl
 goes_on divide = on _ _ refl (λ xs. refl) (λ m. refl) refl

@@ -23,6 +23,7 @@ pub record NameOf (n : List ℕ) : Type 0 where
   pub lower : is_lower first ≡ true
   pub shape : Tail tail
 
+-- A name's parts: its first letter, what follows, its suffix.
 pub name_of : {n : List ℕ} → IsName n → NameOf n
 name_of (unmarked (plain_name {b = b} {t = t} h e)) =
     record { first = b; tail = t; whole = refl; lower = h; shape = bare e }
@@ -45,6 +46,7 @@ word_call b t h =
     let y : (b == 45) ≡ false = not_lower b 45 h refl in
     record { no_index = rw x refl; no_minus = rw y refl; no_operator = rw h refl }
 
+-- A call by a name is no operator.
 pub is_word_call : {n : List ℕ} → IsName n → IsWordCall n
 is_word_call i = let f = name_of i in subst IsWordCall (sym f.whole) (word_call f.first f.tail f.lower)
 
@@ -74,6 +76,7 @@ either false b f g h = g h
 is_it : (n t : List ℕ) → IsInfix (op_of t) t → bytes_eq n t ≡ true → IsInfix (op_of n) n
 is_it n t i h = subst (λ x. IsInfix (op_of x) x) (sym ((bytes_eq-Decides n t).0 h)) i
 
+-- A call that is an operation is printed between its sides.
 pub infix_of : (n : List ℕ) → is_operation n ≡ true → IsInfix (op_of n) n
 infix_of n h =
     either _ (bytes_eq n (codes "=="))
@@ -93,6 +96,7 @@ pub record IsOperatorCall (n : List ℕ) : Type 0 where
   pub no_minus : bytes_eq n (codes "-@") ≡ false
   pub operator : is_operator n ≡ true
 
+-- An operation is called by an operator.
 pub operator_call : (n : List ℕ) → is_operation n ≡ true → IsOperatorCall n
 operator_call n h = by (op_of n) n (infix_of n h) h
   where

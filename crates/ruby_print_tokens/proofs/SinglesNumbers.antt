@@ -36,6 +36,7 @@ every_more (b ∷ t) d h e = (h.0, every_more t d h.1 e)
 positive_more : (ds : List ℕ) (d : ℕ) → IsPositive ds → is_ascii_digit d ≡ true → IsPositive (ds ++ d ∷ [])
 positive_more _ d (positive {t = t} h z e) g = positive h z (every_more t d e g)
 
+-- What a printed number looks like: a first digit and more.
 abbrev pub Shape : ℕ → List ℕ → Type 0
 Shape n ds = ((n ≡ 0) × (ds ≡ 48 ∷ [])) ⊎ ((0 < n) × IsPositive ds)
 
@@ -55,7 +56,7 @@ shape_more n ds h s = elim s [
   | inr p ↦ inr (omega arith, positive_more ds (48 + n % 10) p.1 (digit_is (n % 10) (last_digit n)))
 ]
 
-pub decimal_shape : (n : ℕ) → n < 10 ^ 64 → Shape n (decimal n)
+decimal_shape : (n : ℕ) → n < 10 ^ 64 → Shape n (decimal n)
 decimal_shape n h = decimal_by_steps_wide Shape shape_one shape_more n h
 
 -- ---- what is printed of a number
@@ -76,6 +77,7 @@ abbrev pub IsShort : ℤ → Type 0
 IsShort (pos n) = n < 10 ^ 64
 IsShort (negsuc n) = suc n < 10 ^ 64
 
+-- A short number is printed as a number of the lexer.
 pub short_number : (n : ℤ) → IsShort n → IsNumber (signed_decimal n)
 short_number (pos n) h = by_shape n (decimal_shape n h)
 short_number (negsuc n) h = negative (below n (decimal (suc n)) (decimal_shape (suc n) h))
@@ -160,6 +162,7 @@ negative_lexeme s b t r c v h z e n =
     let d : digits_len (t ++ r) ≡ length t = digits_exact t r e n in
     rw (c, v, h, z, d) (ap (λ m. l.Token k.Int m) (omega arith))
 
+-- A number's parts: its sign and its digits.
 pub number_of : (text : List ℕ) → IsNumber text → NumberOf text
 number_of _ zero_alone = record {
   first = 48;

@@ -16,15 +16,18 @@ use Rattle.ruby_print.specs.Pieces.{escaped}
 
 -- ---- marks
 
+-- The lexer takes an opening quote as one token.
 pub open_text_lexeme : (s : State) (r : List ℕ) → text_at s.opens ≡ None → lexeme s (34 ∷ r) ≡ l.Token k.TextOpen 1
 unfolding lexeme
 open_text_lexeme s r h = rw h refl
 
+-- The lexer takes a closing quote as one token.
 pub close_text_lexeme : (s : State) (r : List ℕ) → text_at s.opens ≡ Some q.Double →
     lexeme s (34 ∷ r) ≡ l.Token k.TextClose 1
 unfolding lexeme
 close_text_lexeme s r h = rw h refl
 
+-- The lexer takes `#{` as one token.
 pub inside_open_lexeme : (s : State) (r : List ℕ) → text_at s.opens ≡ Some q.Double →
     lexeme s (35 ∷ 123 ∷ r) ≡ l.Token k.InsideOpen 2
 unfolding lexeme
@@ -64,6 +67,7 @@ text_passes (b ∷ t) r =
     length-append (escaped b) (flat_map escaped t) in
     ap (piece_from false) e ∙ omega (arith, h, i, g)
 
+-- Escaped bytes are some where there were some.
 pub escaped_some : (t : List ℕ) → t ≢ [] → 0 < length (flat_map escaped t)
 escaped_some [] h = absurd (h refl)
 escaped_some (b ∷ t) h =
@@ -78,6 +82,7 @@ some_more m h = grind (arith, nat_tests)
 piece_found : (bs : List ℕ) (m : ℕ) → 0 < m → piece_len bs ≡ m → double_lexeme bs ≡ l.Token k.TextPiece m
 piece_found bs m h e = let g : nat_lt 0 m ≡ true = some_more m h in rw (e, g) refl
 
+-- The lexer takes a piece of a text as one token.
 pub piece_lexeme : (s : State) (t r : List ℕ) → text_at s.opens ≡ Some q.Double → t ≢ [] → piece_len r ≡ 0 →
     lexeme s (flat_map escaped t ++ r) ≡ l.Token k.TextPiece (length (flat_map escaped t))
 piece_lexeme s t r h n e =

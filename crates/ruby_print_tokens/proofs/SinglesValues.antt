@@ -29,6 +29,7 @@ one_of_them (w ∷ ws) n h e = cases ((length n == length w) && starts_with nat_
 signs : AllByRecursion HasSign valueless_words
 signs = (refl, (refl, (refl, (refl, (refl, (refl, (refl, (refl, (refl, (refl, (refl, (refl, (refl, tt)))))))))))))
 
+-- A name that is no word of Ruby's own ends a value.
 pub no_valueless : (n : List ℕ) → name_sign n ≡ 0 → is_valueless n ≡ false
 unfolding is_valueless
 no_valueless n h = cases (is_one_of valueless_words n)

@@ -37,18 +37,21 @@ assign_stop b h = grind (arith, nat_tests)
 colon_stop : (b : ℕ) → stops_by b ≡ true → (b == 58) ≡ false
 colon_stop b h = grind (arith, nat_tests)
 
+-- A byte that goes on no name ends one.
 pub ends_by_stop : (r : List ℕ) → stops r ≡ true → EndsName r
 ends_by_stop [] h = record { no_word = refl; no_suffix = refl; no_assign = refl; no_colon = refl }
 ends_by_stop (b ∷ r) h =
     let e : is_suffix b ≡ false = suffix_stop b h in
     record { no_word = word_stop b h; no_suffix = rw e refl; no_assign = assign_stop b h; no_colon = colon_stop b h }
 
+-- `(` ends a name.
 pub ends_by_paren : (r : List ℕ) → EndsName (40 ∷ r)
 ends_by_paren r = record { no_word = refl; no_suffix = refl; no_assign = refl; no_colon = refl }
 
 suffix_not_word : (q : ℕ) → is_suffix q ≡ true → is_word q ≡ false
 suffix_not_word q h = grind (arith, nat_tests)
 
+-- A name's tail is as long as the lexer takes it.
 pub tail_exact : {t : List ℕ} (r : List ℕ) → Tail t → EndsName r → name_len (t ++ r) ≡ length t
 tail_exact r (bare {t = t} e) n =
     let p : prefix_len is_word (t ++ r) ≡ length t = exact_front is_word t r e n.no_word in
@@ -65,6 +68,7 @@ tail_exact r (marked t q e s) n =
 no_label : (r : List ℕ) → next_is 58 r ≡ false → colon_at r ≡ false
 no_label r h = rw h refl
 
+-- The lexer takes a name as one token.
 pub name_lexeme : (s : State) (b : ℕ) (t r : List ℕ) → text_at s.opens ≡ None → is_lower b ≡ true → Tail t →
     EndsName r → lexeme s ((b ∷ t) ++ r) ≡ l.Token k.Name (length (b ∷ t))
 unfolding lexeme
@@ -77,6 +81,7 @@ name_lexeme s b t r c h i n =
 upper_not_lower : (b : ℕ) → is_ascii_uppercase b ≡ true → is_lower b ≡ false
 upper_not_lower b h = grind (arith, nat_tests)
 
+-- The lexer takes a constant name as one token.
 pub const_lexeme : (s : State) (b : ℕ) (t r : List ℕ) → text_at s.opens ≡ None → is_ascii_uppercase b ≡ true →
     Every is_word t → next_passes is_word r ≡ false → lexeme s ((b ∷ t) ++ r) ≡ l.Token k.Const (length (b ∷ t))
 unfolding lexeme
@@ -85,6 +90,7 @@ const_lexeme s b t r c h i n =
     let z : is_lower b ≡ false = upper_not_lower b h in
     rw (c, z, h, e) (ap (λ m. l.Token k.Const m) (omega arith))
 
+-- The lexer takes an instance variable as one token.
 pub ivar_lexeme : (s : State) (b : ℕ) (t r : List ℕ) → text_at s.opens ≡ None → is_lower b ≡ true → Every is_word t →
     next_passes is_word r ≡ false → lexeme s ((64 ∷ b ∷ t) ++ r) ≡ l.Token k.Ivar (length (64 ∷ b ∷ t))
 unfolding lexeme
@@ -92,6 +98,7 @@ ivar_lexeme s b t r c h i n =
     let e : prefix_len is_word (t ++ r) ≡ length t = exact_front is_word t r i n in
     rw (c, h, e) (ap (λ m. l.Token k.Ivar m) (omega arith))
 
+-- The lexer takes a symbol as one token.
 pub symbol_lexeme : (s : State) (b : ℕ) (t r : List ℕ) → text_at s.opens ≡ None → (s.before == 58) ≡ false →
     is_lower b ≡ true → Tail t → EndsName r → lexeme s ((58 ∷ b ∷ t) ++ r) ≡ l.Token k.Sym (length (58 ∷ b ∷ t))
 unfolding lexeme
@@ -99,6 +106,7 @@ symbol_lexeme s b t r c z h i n =
     let e : name_len (t ++ r) ≡ length t = tail_exact r i n in
     rw (c, z, h, e) (ap (λ m. l.Token k.Sym m) (omega arith))
 
+-- The lexer takes a symbol of a constant name as one token.
 pub symbol_const_lexeme : (s : State) (b : ℕ) (t r : List ℕ) → text_at s.opens ≡ None → (s.before == 58) ≡ false →
     is_ascii_uppercase b ≡ true → Every is_word t → next_passes is_word r ≡ false →
     lexeme s ((58 ∷ b ∷ t) ++ r) ≡ l.Token k.Sym (length (58 ∷ b ∷ t))
@@ -137,29 +145,37 @@ lower_no_colon b h = grind (arith, nat_tests)
 upper_no_colon : (b : ℕ) → is_ascii_uppercase b ≡ true → no_colon_byte b ≡ true
 upper_no_colon b h = grind (arith, nat_tests)
 
+-- A name ends in no colon.
 pub name_last : (b : ℕ) (t : List ℕ) → is_lower b ≡ true → Tail t → (last_of (b ∷ t) == 58) ≡ false
 name_last b t h i = not_true _ (last_passes no_colon_byte b t (lower_no_colon b h) (tail_no_colon i))
 
+-- A constant name ends in no colon.
 pub const_last : (b : ℕ) (t : List ℕ) → is_ascii_uppercase b ≡ true → Every is_word t → (last_of (b ∷ t) == 58) ≡ false
 const_last b t h i = not_true _ (last_passes no_colon_byte b t (upper_no_colon b h) (words_no_colon t i))
 
+-- A word ends in no colon.
 pub word_last : (c b : ℕ) (t : List ℕ) → is_word b ≡ true → Every is_word t → (last_of (c ∷ b ∷ t) == 58) ≡ false
 word_last c b t h i = ap (λ m. m == 58) (last_more c b t)
     ∙ not_true _ (last_passes no_colon_byte b t (word_no_colon b h) (words_no_colon t i))
 
+-- A symbol ends in no colon.
 pub symbol_last : (c b : ℕ) (t : List ℕ) → is_lower b ≡ true → Tail t → (last_of (c ∷ b ∷ t) == 58) ≡ false
 symbol_last c b t h i = ap (λ m. m == 58) (last_more c b t) ∙ name_last b t h i
 
 -- ---- none begins with white
 
+-- A small letter is not white.
 pub lower_dark : (b : ℕ) → is_lower b ≡ true → is_white b ≡ false
 lower_dark b h = grind (arith, nat_tests)
 
+-- A capital letter is not white.
 pub upper_dark : (b : ℕ) → is_ascii_uppercase b ≡ true → is_white b ≡ false
 upper_dark b h = grind (arith, nat_tests)
 
+-- A small letter stands in words.
 pub word_of_lower : (b : ℕ) → is_lower b ≡ true → is_word b ≡ true
 word_of_lower b h = grind (arith, nat_tests)
 
+-- A capital letter stands in words.
 pub word_of_upper : (b : ℕ) → is_ascii_uppercase b ≡ true → is_word b ≡ true
 word_of_upper b h = grind (arith, nat_tests)

@@ -48,6 +48,7 @@ says (formed.one_more h g) = (says h, says g)
 says (formed.last_arm {names = names} h g) = ((names, h), says g, tt)
 says (formed.arm_more {names = names} h g k) = ((names, h), says g, says k)
 
+-- The law of statements: the lexer finds their pieces.
 pub statement_items : {sets : Bool} {names after : List Name} {ss : List Stmt} →
     FormedStmt sets several names ss after → EachItem (map statement ss) (map print.statement ss)
 statement_items h = says h

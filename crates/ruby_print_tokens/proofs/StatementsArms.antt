@@ -27,9 +27,11 @@ use Rattle.ruby_print_tokens.proofs.StatementsSimple.{else_opener}
 
 -- ---- arms
 
+-- A condition is formed where some variables are known.
 abbrev pub Told : Expr → Type 0
 Told x = (names : List Name) × Formed names one x
 
+-- Each arm has a formed condition and statements that are found.
 abbrev pub EachArm : List (Expr × List Stmt) → Type 0
 EachArm [] = Unit {0}
 EachArm (a ∷ as') = Told a.0 × EachItem (map statement a.1) (map print.statement a.1) × EachArm as'
@@ -155,6 +157,7 @@ good_block : (as' : List (Expr × List Stmt)) (indent r : List ℕ) →
 good_block [] indent r u g = g
 good_block (a ∷ as') indent r u g = record { utf8 = IsUtf8-append _ r u g.utf8; first = refl }
 
+-- A block `if` on its lines is found, and has the bytes that are printed.
 pub block_item : (as' : List (Expr × List Stmt)) (other : List Stmt) → EachArm as' →
     EachItem (map statement other) (map print.statement other) →
     Item (statement_step (s.If (laid as') (map statement other) false))

@@ -21,9 +21,11 @@ use Rattle.ruby_print_tokens.proofs.Utf8.{begins_token, first_begins}
 use Rattle.ruby_print_tokens.proofs.StatementsRuns.{Run, any, no_join, no_value, Code, Fresh, Closed, code_gap}
 use Rattle.ruby_print_tokens.proofs.StatementsRuns.{token_flow}
 
+-- Any bytes may follow.
 abbrev pub Anything : List ℕ → Type 0
 Anything bs = Unit {0}
 
+-- This byte follows.
 abbrev pub NextIs : ℕ → List ℕ → Type 0
 NextIs b bs = next_is b bs ≡ true
 
@@ -78,24 +80,31 @@ mark_run {m} {gap = gap} x c cs h w e o b a s i rest p r =
       },
     )
 
+-- The lexer finds `=`.
 pub equals_run : Run (Code 0 any) (NextIs 32) (mark space op.Assign (codes "=") ∷ []) (Code 0 no_value)
 equals_run = mark_run op.Assign 61 [] (refl, tt) refl equals_at (λ _. refl) refl refl
 
+-- The lexer finds `<`.
 pub less_run : Run (Code 0 any) (NextIs 32) (mark space op.Less (codes "<") ∷ []) (Code 0 no_value)
 less_run = mark_run op.Less 60 [] (refl, tt) refl less_at (λ _. refl) refl refl
 
+-- The lexer finds `(`.
 pub open_run : Run (Code 0 any) Anything (open_paren [] ∷ []) (Code 1 any)
 open_run = mark_run op.OpenParen 40 [] tt refl (λ s r _. open_at s r) (λ _. refl) refl refl
 
+-- The lexer finds `)`.
 pub close_run : Run (Code 1 any) Anything (close_paren ∷ []) (Code 0 no_join)
 close_run = mark_run op.CloseParen 41 [] tt refl (λ s r _. close_at s r) (λ _. refl) refl refl
 
+-- The lexer finds `,`.
 pub comma_run : {m : ℕ} → Run (Code m any) Anything (comma ∷ []) (Code m any)
 comma_run = mark_run op.Comma 44 [] tt refl (λ s r _. comma_at s r) (λ _. refl) refl refl
 
+-- The lexer finds `.`.
 pub dot_run : Run (Code 0 any) (λ r. next_is 46 r ≡ false) (dot ∷ []) (Code 0 any)
 dot_run = mark_run op.Dot 46 [] tt refl dot_at (λ _. refl) refl refl
 
+-- The lexer finds `::`.
 pub colons_run : {gap : List ℕ} → IsSpaces gap → Run (Code 0 any) Anything (colons gap ∷ []) (Code 0 any)
 colons_run h = mark_run op.Path 58 (58 ∷ []) h refl (λ s r _. colons_at s r) (λ _. refl) refl refl
 
@@ -110,6 +119,7 @@ line_at s r c h =
     let j : joins s.after ≡ false = not_true (joins s.after) c.after in
     rw (c.brackets, j, h) refl
 
+-- The lexer finds a line's end.
 pub newline_run : Run Closed NoEnds (newline ∷ []) Fresh
 newline_run s i rest c r = (
   state_behind i newline s,
@@ -128,6 +138,7 @@ spaces_no_ends (b ∷ gap) r h e =
 no_run : (b : ℕ) → begins_token b ≡ true → goes_on false false b ≡ false
 no_run b h = grind (arith, nat_tests)
 
+-- A token's first byte is no line's end.
 pub token_no_ends : (t r : List ℕ) → first_begins t ≡ true → NoEnds (t ++ r)
 token_no_ends [] r h = cc
 token_no_ends (b ∷ t) r h = rw (no_run b h) refl

@@ -24,9 +24,11 @@ use Rattle.ruby_print_tokens.proofs.Reading.{flows_append}
 abbrev pub Run : (State → Type 0) → (List ℕ → Type 0) → List Piece → (State → Type 0) → Type 0
 Run P R ps Q = (s : State) (n : ℕ) (rest : List ℕ) → P s → R rest → (end : State) × Flows rest s n ps end × Q end
 
+-- No pieces run from anywhere to there.
 pub nothing : {P : State → Type 0} (R : List ℕ → Type 0) → Run P R [] P
 nothing R s n rest p r = (s, stays, p)
 
+-- Runs one behind another are one run.
 pub behind : {P M Q : State → Type 0} {R R' : List ℕ → Type 0} {ps qs : List Piece} → Run P R ps M →
     ((rest : List ℕ) → R' rest → R (bytes_of qs ++ rest)) → Run M R' qs Q → Run P R' (ps ++ qs) Q
 behind {ps = ps} {qs = qs} f h g s n rest p r =
@@ -34,12 +36,14 @@ behind {ps = ps} {qs = qs} f h g s n rest p r =
     let y = g x.0 (place_behind n ps) rest x.2 r in
     (y.0, flows_append x.1 y.1, y.2)
 
+-- A run from fewer states, before fewer bytes, to more states.
 pub weaker : {P P' Q Q' : State → Type 0} {R R' : List ℕ → Type 0} {ps : List Piece} → ((s : State) → P' s → P s) →
     ((rest : List ℕ) → R' rest → R rest) → ((s : State) → Q s → Q' s) → Run P R ps Q → Run P' R' ps Q'
 weaker f g h run s n rest p r = let x = run s n rest (f s p) (g rest r) in (x.0, x.1, h x.0 x.2)
 
 -- ---- states in code
 
+-- Whatever the last token was.
 abbrev pub any : After → Bool
 any x = true
 
@@ -51,6 +55,7 @@ no_value x = not (ends_value x)
 abbrev pub no_join : After → Bool
 no_join x = not (joins x)
 
+-- The last token ends no value and joins nothing.
 abbrev pub is_other : After → Bool
 is_other a.Other = true
 is_other _ = false
@@ -70,6 +75,7 @@ pub record Fresh (s : State) : Type 0 where
 abbrev pub Closed : State → Type 0
 Closed s = Code 0 no_join s
 
+-- A state of code, whatever its last token was.
 pub code_any : {m : ℕ} {ok : After → Bool} (s : State) → Code m ok s → Code m any s
 code_any s c = record { opens = c.opens; brackets = c.brackets; after = refl }
 
@@ -83,9 +89,11 @@ other_no_join a.Value h = cc
 other_no_join a.Joins h = cc
 other_no_join a.Other h = refl
 
+-- A state behind another token ends no value.
 pub code_no_value : {m : ℕ} (s : State) → Code m is_other s → Code m no_value s
 code_no_value s c = record { opens = c.opens; brackets = c.brackets; after = other_no_value s.after c.after }
 
+-- A state behind another token joins nothing.
 pub code_no_join : {m : ℕ} (s : State) → Code m is_other s → Code m no_join s
 code_no_join s c = record { opens = c.opens; brackets = c.brackets; after = other_no_join s.after c.after }
 
@@ -96,6 +104,7 @@ code_gap (b ∷ gap) c = record { opens = c.opens; brackets = c.brackets; after 
 
 -- ---- one piece
 
+-- Outside texts a byte is looked at as code.
 pub in_code : (s : State) (b : ℕ) (bs : List ℕ) → s.opens ≡ [] → lexeme s (b ∷ bs) ≡ code_lexeme s b bs
 in_code s b bs h = lexeme_by s b bs ∙ ap (λ x. lexeme_in (text_at x) s b bs) h
 

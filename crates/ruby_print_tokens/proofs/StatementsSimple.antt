@@ -27,6 +27,7 @@ use Rattle.ruby_print_tokens.proofs.StatementsLines.{alone_space, alone_breaks, 
 
 -- ---- an expression
 
+-- An expression statement on its lines is found, and has the bytes that are printed.
 pub expression_item : {names : List Name} {x : Expr} → Formed names one x →
     Item (statement_step (s.Expr x)) (print.statement_step (s.Expr x))
 expression_item h = record {
@@ -37,13 +38,15 @@ expression_item h = record {
 
 -- ---- what stands behind ` = `
 
+-- The lexer finds an assigned value.
 pub value_run : {names : List Name} {x : Expr} → Formed names one x → Run (Code 0 any) Behind (value x) Closed
 value_run h = behind equals_run (λ rest r. alone_space h rest) (weaker (λ s c. c) behind_stops (λ s c. c) (alone_run h))
 
-pub value_bytes : {names : List Name} {x : Expr} → Formed names one x →
+value_bytes : {names : List Name} {x : Expr} → Formed names one x →
     bytes_of (value x) ≡ codes " = " ++ print_expressions.alone x
 value_bytes h = ap (λ b. 32 ∷ 61 ∷ b) (bytes_expression h space false)
 
+-- The text of an assigned value is UTF-8.
 pub utf8_value : {names : List Name} {x : Expr} → Formed names one x → IsUtf8 (codes " = " ++ print_expressions.alone x)
 utf8_value h = IsUtf8-append (codes " = ") _ (utf8_ascii _ refl) (good_expression h false).utf8
 
@@ -53,6 +56,7 @@ pub set_bytes : {names : List Name} {x : Expr} → Formed names one x → (inden
 set_bytes {x = x} h indent text = append_assoc indent text (bytes_of (value x))
     ∙ ap (λ b. indent ++ (text ++ b)) (value_bytes h)
 
+-- An assignment on its lines is found, and has the bytes that are printed.
 pub set_item : {names : List Name} {n : List ℕ} {x : Expr} → IsPlainName n → Formed names one x →
     Item (statement_step (s.Set n x)) (print.statement_step (s.Set n x))
 set_item {n = n} p h = record {
@@ -63,6 +67,7 @@ set_item {n = n} p h = record {
   good = λ indent i. good_append (good_plain p) (utf8_value h);
 }
 
+-- An instance variable on its lines is found, and has the bytes that are printed.
 pub ivar_item : {names : List Name} {n : List ℕ} {x : Expr} → IsPlainName n → Formed names one x →
     Item (statement_step (s.SetIvar n x)) (print.statement_step (s.SetIvar n x))
 ivar_item {n = n} p h = record {
@@ -77,16 +82,18 @@ ivar_item {n = n} p h = record {
 unfoldable pub IsOpener : List ℕ → Type 0
 IsOpener w = IsPlainName w × (is_valueless w ≡ true) × Good w
 
+-- The lexer finds a word that opens.
 pub opener_run : {w : List ℕ} → IsOpener w → (indent : List ℕ) → IsSpaces indent →
     Run Fresh Breaks (name indent w ∷ []) (Code 0 is_other)
 unfolding IsOpener
 opener_run o indent i = weaker (λ s f. code_any s f.code) (λ rest r. r) (λ s c. c) (word_run i (plainly o.0) o.1)
 
+-- A word that opens begins a token.
 pub opener_good : {w : List ℕ} → IsOpener w → Good w
 unfolding IsOpener
 opener_good o = o.2
 
-pub return_opener : IsOpener (codes "return")
+return_opener : IsOpener (codes "return")
 unfolding IsOpener is_valueless
 return_opener = (
   plain_name refl (refl, (refl, (refl, (refl, (refl, tt))))),
@@ -95,7 +102,7 @@ return_opener = (
       (utf8_ascii _ refl),
 )
 
-pub raise_opener : IsOpener (codes "raise")
+raise_opener : IsOpener (codes "raise")
 unfolding IsOpener is_valueless
 raise_opener = (
   plain_name refl (refl, (refl, (refl, (refl, tt)))),
@@ -104,10 +111,12 @@ raise_opener = (
       (utf8_ascii _ refl),
 )
 
+-- `if` opens.
 pub if_opener : IsOpener (codes "if")
 unfolding IsOpener is_valueless
 if_opener = (plain_name refl (refl, tt), refl, good_then 105 _ refl (omega arith) (utf8_ascii _ refl))
 
+-- `elsif` opens.
 pub elsif_opener : IsOpener (codes "elsif")
 unfolding IsOpener is_valueless
 elsif_opener = (
@@ -117,10 +126,12 @@ elsif_opener = (
       (utf8_ascii _ refl),
 )
 
+-- `else` opens.
 pub else_opener : IsOpener (codes "else")
 unfolding IsOpener is_valueless
 else_opener = (plain_name refl (refl, (refl, (refl, tt))), refl, good_then 101 _ refl (omega arith) (utf8_ascii _ refl))
 
+-- `return` alone on its lines is found, and has the bytes that are printed.
 pub return_item : Item (statement_step (s.Return None)) (print.statement_step (s.Return None))
 return_item = record {
   runs = λ indent i. weaker (λ s f. f) behind_breaks code_no_join (opener_run return_opener indent i);
@@ -139,6 +150,7 @@ word_alone_bytes : {names : List Name} {x : Expr} → Formed names one x → (in
 word_alone_bytes {x = x} h indent w = append_assoc indent w (bytes_of (alone x))
     ∙ ap (λ b. indent ++ (w ++ b)) (bytes_expression h space false)
 
+-- `return` with its value on its lines is found, and has the bytes that are printed.
 pub return_value_item : {names : List Name} {x : Expr} → Formed names one x →
     Item (statement_step (s.Return (Some x))) (print.statement_step (s.Return (Some x)))
 return_value_item h = record {
@@ -148,6 +160,7 @@ return_value_item h = record {
       (good_expression h false).utf8;
 }
 
+-- `raise` on its lines is found, and has the bytes that are printed.
 pub raise_item : {names : List Name} {x : Expr} → Formed names one x →
     Item (statement_step (s.Raise x)) (print.statement_step (s.Raise x))
 raise_item h = record {
@@ -190,6 +203,7 @@ behind_bytes {x = x} {f} {g} h t indent =
     ∙ append_assoc indent (g indent) _
     ∙ ap (λ b. indent ++ b) (behind_text (g indent) _)
 
+-- An `if` behind its statement on its lines is found, and has the bytes that are printed.
 pub behind_item : {names : List Name} {x : Expr} {f : Placed} {g : print.Placed} → Formed names one x → Item f g →
     Item (statement_step (s.If ((x, f ∷ []) ∷ []) [] true)) (print.statement_step (s.If ((x, g ∷ []) ∷ []) [] true))
 behind_item {x = x} {f} {g} h t = record {

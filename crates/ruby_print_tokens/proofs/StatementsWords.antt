@@ -28,9 +28,11 @@ abbrev breaks : List ℕ → Bool
 breaks [] = true
 breaks (b ∷ bs) = breaks_by b
 
+-- What ends a name.
 abbrev pub Breaks : List ℕ → Type 0
 Breaks bs = breaks bs ≡ true
 
+-- What goes on no word.
 abbrev pub NoWord : List ℕ → Type 0
 NoWord bs = next_passes is_word bs ≡ false
 
@@ -43,6 +45,7 @@ by_suffix b h = grind (arith, nat_tests)
 by_marks : (b : ℕ) → breaks_by b ≡ true → ((b == 61) ≡ false) × ((b == 58) ≡ false)
 by_marks b h = grind (arith, nat_tests)
 
+-- What ends a name goes on no word.
 pub breaks_no_word : (bs : List ℕ) → Breaks bs → NoWord bs
 breaks_no_word [] h = refl
 breaks_no_word (b ∷ bs) h = by_word b h
@@ -95,6 +98,7 @@ pub record Worded (n : List ℕ) : Type 0 where
   pub lower : is_lower first ≡ true
   pub size : (r : List ℕ) → Breaks r → name_len (more ++ r) ≡ length more
 
+-- A plain name is a worded one.
 pub plainly : {n : List ℕ} → IsPlainName n → Worded n
 plainly (plain_name {b} {t} h w) = record { first = b; more = t; whole = refl; lower = h; size = λ r. plain_len t r w }
 
@@ -102,6 +106,7 @@ suffixly : {n : List ℕ} (q : ℕ) → IsPlainName n → is_suffix q ≡ true �
 suffixly q (plain_name {b} {t} h w) s =
     record { first = b; more = t ++ q ∷ []; whole = refl; lower = h; size = λ r. suffixed_len t r q w s }
 
+-- A name is a worded one.
 pub worded : {n : List ℕ} → IsName n → Worded n
 worded (unmarked p) = plainly p
 worded (suffixed q p s) = suffixly q p s
@@ -118,6 +123,7 @@ name_lexeme s b t r h e g = rw (h, e, drop_front t r, no_colon r g) (ap (l.Token
 name_after : (n : List ℕ) → no_join (after_token k.Name n) ≡ true
 name_after n = split_if (λ x. no_join x ≡ true) (is_valueless n) a.Other a.Value (λ _. refl) (λ _. refl)
 
+-- The lexer finds a name.
 pub name_run : {m : ℕ} {n : List ℕ} {gap : List ℕ} → IsSpaces gap → Worded n →
     Run (Code m any) Breaks (name gap n ∷ []) (Code m no_join)
 name_run {m} {n} {gap} h w s i rest c r =
@@ -149,6 +155,7 @@ const_lexeme : (s : State) (b : ℕ) (t r : List ℕ) → is_ascii_uppercase b �
     code_lexeme s b (t ++ r) ≡ l.Token k.Const (length (b ∷ t))
 const_lexeme s b t r h w n = rw ((upper_class b h).0, h, word_len t r w n) (ap (l.Token k.Const) (omega arith))
 
+-- The lexer finds a constant name.
 pub const_run : {m : ℕ} {n : List ℕ} {gap : List ℕ} → IsSpaces gap → IsConstName n →
     Run (Code m any) NoWord (const gap n ∷ []) (Code m no_join)
 const_run {m} {gap = gap} h (capital {b} {t} u w) s i rest c r =
@@ -164,6 +171,7 @@ ivar_lexeme : (s : State) (b : ℕ) (t r : List ℕ) → is_lower b ≡ true →
     code_lexeme s 64 ((b ∷ t) ++ r) ≡ l.Token k.Ivar (length (64 ∷ b ∷ t))
 ivar_lexeme s b t r h w n = rw (h, word_len t r w n) (ap (l.Token k.Ivar) (omega arith))
 
+-- The lexer finds an instance variable.
 pub ivar_run : {m : ℕ} {n : List ℕ} {gap : List ℕ} → IsSpaces gap → IsPlainName n →
     Run (Code m any) Breaks (piece gap k.Ivar (64 ∷ n) ∷ []) (Code m no_join)
 ivar_run {m} {gap = gap} h (plain_name {b} {t} u w) s i rest c r =
@@ -184,6 +192,7 @@ symbol_lexeme s n r (of_name h) g =
 symbol_lexeme s n r (of_constant (capital {b} {t} u w)) g =
     rw ((upper_class b u).0, u, word_len t r w (breaks_no_word r g)) (ap (l.Token k.Sym) (omega arith))
 
+-- The lexer finds a symbol.
 pub symbol_run : {m : ℕ} {n : List ℕ} → IsSymbolName n →
     Run (Code m any) Breaks (piece space k.Sym (58 ∷ n) ∷ []) (Code m no_join)
 symbol_run {m} {n} h s i rest c r =

@@ -22,10 +22,12 @@ use Rattle.ruby_print_pieces.specs.Names.{IsSymbolName, of_name, of_constant, Ea
 
 -- ---- bytes below 128
 
+-- Whether all bytes are below 128.
 abbrev pub are_ascii : List ℕ → Bool
 are_ascii [] = true
 are_ascii (x ∷ xs) = nat_lt x 128 && are_ascii xs
 
+-- The text of bytes below 128 is UTF-8.
 pub utf8_ascii : (xs : List ℕ) → are_ascii xs ≡ true → IsUtf8 xs
 utf8_ascii [] e = IsUtf8-nil
 utf8_ascii (x ∷ xs) e = let p = and_parts _ _ e in utf8_cons x xs (ltb-true _ _ p.0) (utf8_ascii xs p.1)
@@ -33,7 +35,7 @@ utf8_ascii (x ∷ xs) e = let p = and_parts _ _ e in utf8_cons x xs (ltb-true _ 
 word_below : (b : ℕ) → is_word b ≡ true → b < 128
 word_below b h = grind (arith, nat_tests)
 
-pub utf8_word : (t : List ℕ) → Every is_word t → IsUtf8 t
+utf8_word : (t : List ℕ) → Every is_word t → IsUtf8 t
 utf8_word [] h = IsUtf8-nil
 utf8_word (b ∷ t) h = utf8_cons b t (word_below b h.0) (utf8_word t h.1)
 
@@ -79,14 +81,17 @@ all_chars (c ∷ cs) e =
     subst IsUtf8 (sym (flat_map-append escaped (encode c) (encodes cs)))
     (IsUtf8-append _ _ (one_char c p.0) (all_chars cs p.1))
 
+-- The text of escaped bytes is UTF-8.
 pub utf8_escaped : (text : List ℕ) → IsUtf8 text → IsUtf8 (flat_map escaped text)
 utf8_escaped text u = subst (λ l. IsUtf8 (flat_map escaped l)) u.1.1 (all_chars u.0 u.1.0)
 
 -- ---- texts of tokens
 
+-- Whether a byte begins a token on its line.
 abbrev pub begins_token : ℕ → Bool
 begins_token b = not (is_white b || ((b == 35) || is_line_end b))
 
+-- Whether the first byte begins a token on its line.
 abbrev pub first_begins : List ℕ → Bool
 first_begins [] = false
 first_begins (b ∷ bs) = begins_token b
@@ -95,6 +100,7 @@ pub record Good (t : List ℕ) : Type 0 where
   pub utf8 : IsUtf8 t
   pub first : first_begins t ≡ true
 
+-- A byte below 128 that begins a token, and UTF-8 behind it, make a good text.
 pub good_then : (b : ℕ) (t : List ℕ) → begins_token b ≡ true → b < 128 → IsUtf8 t → Good (b ∷ t)
 good_then b t h l u = record { utf8 = utf8_cons b t l u; first = h }
 
@@ -102,6 +108,7 @@ first_append : (t r : List ℕ) → first_begins t ≡ true → first_begins (t 
 first_append [] r h = cc
 first_append (b ∷ t) r h = h
 
+-- A good text stays so before UTF-8.
 pub good_append : {t r : List ℕ} → Good t → IsUtf8 r → Good (t ++ r)
 good_append {t} {r} g u = record { utf8 = IsUtf8-append t r g.utf8 u; first = first_append t r g.first }
 
@@ -131,6 +138,7 @@ decimal_good : (n : ℕ) → Good (decimal n)
 unfolding digits
 decimal_good n = digits_begin 63 n
 
+-- The text of a decimal number is UTF-8 and begins a token.
 pub good_decimal : (z : ℤ) → Good (signed_decimal z)
 good_decimal (pos n) = decimal_good n
 good_decimal (negsuc n) = good_then 45 _ refl (omega arith) (decimal_good (suc n)).utf8
@@ -146,16 +154,20 @@ begins_upper b h = grind (arith, nat_tests)
 suffix_below : (b : ℕ) → is_suffix b ≡ true → b < 128
 suffix_below b h = grind (arith, nat_tests)
 
+-- The text of a plain name is UTF-8 and begins a token.
 pub good_plain : {n : List ℕ} → IsPlainName n → Good n
 good_plain (plain_name {b} {t} l w) = let p = begins_lower b l in good_then b t p.0 p.1 (utf8_word t w)
 
+-- The text of a name is UTF-8 and begins a token.
 pub good_name : {n : List ℕ} → IsName n → Good n
 good_name (unmarked p) = good_plain p
 good_name (suffixed q p h) = good_append (good_plain p) (utf8_cons q [] (suffix_below q h) IsUtf8-nil)
 
+-- The text of a constant name is UTF-8 and begins a token.
 pub good_const : {n : List ℕ} → IsConstName n → Good n
 good_const (capital {b} {t} l w) = let p = begins_upper b l in good_then b t p.0 p.1 (utf8_word t w)
 
+-- The text of a symbol is UTF-8 and begins a token.
 pub good_symbol : {n : List ℕ} → IsSymbolName n → Good (58 ∷ n)
 good_symbol (of_name h) = good_then 58 _ refl (omega arith) (good_name h).utf8
 good_symbol (of_constant h) = good_then 58 _ refl (omega arith) (good_const h).utf8
@@ -168,10 +180,12 @@ more_names n (m ∷ ns) h hs =
     good_append (good_const h)
     (utf8_cons 58 _ (omega arith) (utf8_cons 58 _ (omega arith) (more_names m ns hs.0 hs.1).utf8))
 
+-- The text of a path is UTF-8 and begins a token.
 pub good_path : (ns : List (List ℕ)) → IsPath ns → Good (path_text ns)
 good_path [] h = absurd h
 good_path (n ∷ ns) h = more_names n ns h.0 h.1
 
+-- The text of a constant is UTF-8 and begins a token.
 pub good_constant : (c : ConstRef) → IsPath c.path → Good (constant_text c)
 good_constant c h = from_top c.top (good_path c.path h)
   where
@@ -181,11 +195,13 @@ good_constant c h = from_top c.top (good_path c.path h)
 
 -- ---- texts with commas between them
 
+-- The text of texts with commas between is UTF-8.
 pub utf8_joined : (xs : List (List ℕ)) → AllByRecursion IsUtf8 xs → IsUtf8 (joined xs)
 utf8_joined [] h = IsUtf8-nil
 utf8_joined (x ∷ []) h = h.0
 utf8_joined (x ∷ y ∷ ys) h =
     IsUtf8-append x _ h.0 (utf8_cons 44 _ (omega arith) (utf8_cons 32 _ (omega arith) (utf8_joined (y ∷ ys) h.1)))
 
+-- The text of what stands in parentheses is UTF-8 and begins a token.
 pub good_grouped : {t : List ℕ} → IsUtf8 t → Good (grouped t)
 good_grouped {t} u = good_then 40 _ refl (omega arith) (IsUtf8-append t _ u (utf8_ascii (41 ∷ []) refl))

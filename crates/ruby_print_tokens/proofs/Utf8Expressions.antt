@@ -180,5 +180,6 @@ good_formed formed.no_parts = tt
 good_formed (formed.plain_part {text = text} h u g) = (utf8_plain text u, good_formed g)
 good_formed (formed.inside_part {x = x} g h) = (utf8_inside x (good_formed g), good_formed h)
 
+-- The text of an expression statement is UTF-8 and begins a token.
 pub good_expression : {names : List Name} {x : Expr} → Formed names one x → (inside : Bool) → Good (expression x inside)
 good_expression h = good_formed h

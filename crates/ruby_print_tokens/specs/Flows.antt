@@ -58,6 +58,7 @@ IsSpaces (b ∷ bs) = (b ≡ 32) × IsSpaces bs
 abbrev pub stops_by : ℕ → Bool
 stops_by b = (b == 10) || (b == 32) || (b == 41) || (b == 44) || (b == 46) || (b == 91) || (b == 93) || (b == 125)
 
+-- Whether the next byte goes on no name.
 abbrev pub stops : List ℕ → Bool
 stops [] = true
 stops (b ∷ bs) = stops_by b

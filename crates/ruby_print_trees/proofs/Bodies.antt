@@ -20,6 +20,7 @@ use Rattle.ruby_print_trees.proofs.Lists.{parameters_all, first_reader, reader_m
 use Rattle.ruby_print_trees.proofs.Lists.{definitions_all}
 use Rattle.ruby_print_trees.proofs.Words.{name_of, variable_of, const_of, symbol_of}
 
+-- Each production of the rule of files gives formed trees.
 pub fine_file : (levels : ℕ) (anywhere : Bool) → EachFine (file levels anywhere)
 fine_file levels anywhere =
     (λ a w v s b y n c h z. h z [] (no_definitions []), (λ a y n c h z. h z [] (no_definitions []), tt))
@@ -28,6 +29,7 @@ ended : (path : Path) (ds : List Def) (es : List d.Deed) → d.FormedDef path d.
     d.FormedDef path d.several_definitions ds (es ++ [])
 ended path ds es h = subst (λ l. d.FormedDef path d.several_definitions ds l) (sym (append-nil es)) h
 
+-- Each production of the rule of definitions gives formed trees.
 pub fine_definitions : (here : Body) (ds : List Def) → EachFine (definitions here ds)
 fine_definitions here ds = (
   λ a x n c h y n' c' g z es i. subst (λ l. d.FormedDef here.path d.several_definitions y l) (append_assoc es n n')
@@ -35,6 +37,7 @@ fine_definitions here ds = (
   (λ a z es i. ended here.path ds es (definitions_all here.path ds es i), tt),
 )
 
+-- Each production of the rule of further definitions gives formed trees.
 pub fine_more_definitions : (here : Body) (ds : List Def) → EachFine (more_definitions here ds)
 fine_more_definitions here ds =
     (λ a w v s b y n c g z es i. g z es i, (λ a z es i. ended here.path ds es (definitions_all here.path ds es i), tt))
@@ -58,6 +61,7 @@ class_formed path names (Some c) body ns ds h e i =
     subst (λ l. d.FormedDef path d.definition (def.Class names (Some c) body) (l ++ ds)) (sym e.1)
     (d.is_subclass h e.0 i)
 
+-- Each production of the rule of a class's parent gives formed trees.
 pub fine_parent : (path : Path) (at : ℕ) → EachFine (parent path at)
 fine_parent path at = (
   λ a w v s b y n c h w' v' s' b'. (h.0, ap (λ l. d.deed path opens_class ∷ l) h.1),
@@ -90,6 +94,7 @@ member_fine here false e = (
   ),
 )
 
+-- Each production of the rule of one definition gives formed trees.
 pub fine_definition : (here : Body) → EachFine (definition here)
 fine_definition here = each_append (λ p. Fine (definition here) p) (r.top_forms here) _ (
   λ a w v s b w' v' s' b' x n c h z. d.is_assignment (const_of w v s) h,
@@ -106,9 +111,11 @@ fine_definition here = each_append (λ p. Fine (definition here) p) (r.top_forms
 
 -- ---- headings, parameters and readers
 
+-- Each production of the rule of a method's heading gives formed trees.
 pub fine_heading : EachFine heading
 fine_heading = (λ a w v s b w' v' s' b' w2 v2 s2 b2. name_of w2 v2 s2, (λ a w v s b. name_of w v s, tt))
 
+-- Each production of the rule of parameters in parentheses gives formed trees.
 pub fine_parameter_list : (levels : ℕ) (m : Mark) → EachFine (parameter_list levels m)
 fine_parameter_list levels m = (
   λ a w v s b. (tt, refl),
@@ -116,12 +123,14 @@ fine_parameter_list levels m = (
       (λ n a w v s b y k c h w' v' s' b' w2 v2 s2 b2. (h, refl)),
 )
 
+-- Each production of the rule of parameters gives formed trees.
 pub fine_parameters : EachFine parameters
 fine_parameters = (
   λ a w v s b y n c g. g (parameter_more [] w.text no_parameters (variable_of w v s) refl),
   (λ a. tt, tt),
 )
 
+-- Each production of the rule of further parameters gives formed trees.
 pub fine_more_parameters : (names : List Name) → EachFine (more_parameters names)
 fine_more_parameters names = (
   λ a w v s b w' v' s' b' y n c g i. let p = and_true (is_variable w') (not (has names w'.text)) v' in
@@ -129,6 +138,7 @@ fine_more_parameters names = (
   (λ a i. parameters_all names i, tt),
 )
 
+-- Each production of the rule of further readers gives formed trees.
 pub fine_readers : (path : Path) (names : List Name) → EachFine (more_readers path names)
 fine_readers path names = (
   λ a w v s b w' v' s' b' y n c g es i.

@@ -248,9 +248,11 @@ behind (Some q.Single) s w t r i l u = behind_single s w t r i l u
 
 -- ---- the longest lexeme
 
+-- Behind a lexeme of UTF-8 there is UTF-8: text goes on being valid.
 pub rest_utf8 : (s : State) (w : What) (t r : List ℕ) → Longest s w t r → IsUtf8 (t ++ r) → IsUtf8 r
 rest_utf8 s w t r h u = behind (text_at s.opens) s w t r h.is h.longest u
 
+-- A piece of a text that is UTF-8 is UTF-8.
 pub piece_utf8 : (s : State) (t r : List ℕ) → Longest s (token k.TextPiece) t r → IsUtf8 (t ++ r) → IsUtf8 t
 piece_utf8 s t r h u = (piece_parts (text_at s.opens) s t r h.is h.longest u).0
 
@@ -268,6 +270,7 @@ other_state None s s' t r i = elim i [ ]
 other_state (Some q.Double) s s' t r i = i
 other_state (Some q.Single) s s' t r i = i
 
+-- Behind a piece of a text no other piece begins.
 pub piece_ends : (s : State) (n : ℕ) (kind : TokenKind) (t r : List ℕ) → kind ≡ k.TextPiece →
     Longest s (token kind) t r → PieceEnds (state_after kind t n s) r
 piece_ends s n kind t r e = subst (λ x. Longest s (token x) t r → PieceEnds (state_after x t n s) r) (sym e)
@@ -285,6 +288,7 @@ gap_inside None s t r i h = h refl
 gap_inside (Some q.Double) s t r i h = elim i [ ]
 gap_inside (Some q.Single) s t r i h = elim i [ ]
 
+-- No gap stands where a piece ended.
 pub no_gap : (s : State) (t r bs : List ℕ) → Longest s gap t r → PieceEnds s bs → ⊥
 no_gap s t r bs h p = gap_inside (text_at s.opens) s t r h.is p.inside
 
@@ -295,6 +299,7 @@ up_to_utf8 bytes zero = IsUtf8-nil
 up_to_utf8 bytes (suc n) = split_if (λ m. IsUtf8 (take m bytes)) (is_utf8 (take (suc n) bytes)) (suc n)
     (valid_len_up_to bytes n) (λ h. IsUtf8-from_is_utf8 (take (suc n) bytes) h) (λ h. up_to_utf8 bytes n)
 
+-- What the lexer reads of a file is UTF-8.
 pub front_utf8 : (bytes : List ℕ) → IsUtf8 (utf8_front bytes)
 unfolding utf8_valid_len
 front_utf8 bytes = up_to_utf8 bytes (length bytes)

@@ -14,6 +14,7 @@ use Rattle.ruby_grammar.specs.Values.{escaped, double_text, single_text, text_by
 
 -- ---- cuts beside bytes below 128
 
+-- UTF-8 stays so without a first byte below 128.
 pub utf8_behind : (b : ℕ) (bs : List ℕ) → b < 128 → IsUtf8 (b ∷ bs) → IsUtf8 bs
 utf8_behind b bs h u = IsUtf8-drop (b ∷ bs) 1 u (IsCharBoundary-after_ascii (b ∷ bs) 0 u (omega arith) h)
 
@@ -138,7 +139,7 @@ unescaped f u (wide {b = b} {t = t} {bs = bs} h w c) =
     let first = subst (λ x. IsUtf8 x) (sym (through_wide f u (b ∷ t) bs w)) (IsUtf8-append (b ∷ t) (f bs) h i.0) in
     (first, by_pair f u b (t ++ bs) first (λ l. absurd (omega (arith, l, w.0))))
 
-pub unescaped_utf8 : (f : List ℕ → List ℕ) → Unescapes f → (bs : List ℕ) → IsUtf8 bs → IsUtf8 (f bs)
+unescaped_utf8 : (f : List ℕ → List ℕ) → Unescapes f → (bs : List ℕ) → IsUtf8 bs → IsUtf8 (f bs)
 unescaped_utf8 f u bs h = (unescaped f u (utf8_chars bs h)).0
 
 -- ---- both kinds of texts
@@ -169,6 +170,7 @@ escaped_wide c h = rw (
   not_byte c 101 (omega arith) h,
 ) refl
 
+-- A byte is below 128 or not: the two cases of UTF-8.
 pub small_or_wide : (c : ℕ) → (c < 128) ⊎ (128 ≤ c)
 small_or_wide c = grind arith
 
@@ -206,6 +208,7 @@ single_unescapes = record {
       pair_single c bs ((c == 39) || (c == 92)) refl;
 }
 
+-- What a piece of UTF-8 stands for is UTF-8.
 pub text_utf8 : (double : Bool) (text : List ℕ) → IsUtf8 text → IsUtf8 (text_bytes double text)
 text_utf8 true text h = unescaped_utf8 double_text double_unescapes text h
 text_utf8 false text h = unescaped_utf8 single_text single_unescapes text h
@@ -218,6 +221,7 @@ single_some : (b : ℕ) (bs : List ℕ) → single_text (b ∷ bs) ≢ []
 single_some b [] = λ e. cc
 single_some b (c ∷ bs) = split_if (λ x. x ≢ []) ((b == 92) && ((c == 39) || (c == 92))) _ _ (λ v e. cc) (λ v e. cc)
 
+-- What a piece stands for is never empty.
 pub text_some : (double : Bool) (b : ℕ) (bs : List ℕ) → text_bytes double (b ∷ bs) ≢ []
 text_some true b bs = double_some b bs
 text_some false b bs = single_some b bs

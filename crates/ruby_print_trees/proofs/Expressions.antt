@@ -21,6 +21,7 @@ use Rattle.ruby_print_trees.proofs.Words.{operation_of}
 
 -- ---- constants
 
+-- Each production of the rule of a path's further names gives formed trees.
 pub fine_path : (more : Bool) (ending : Option Mark) (names : List Name) → EachFine (path_rest more ending names)
 fine_path true None names = (
   λ a w t s b w' t' s' b' y n c h. (λ p. h.0 (path_push names w'.text p (const_of w' t' s')), λ z. cc, refl),
@@ -37,17 +38,21 @@ constant_from : (top : Bool) (ending : Option Mark) → Fine (constant ending) (
 constant_from top None = λ a w t s b y n c h. (h.0 (const_of w t s, tt), refl)
 constant_from top (Some m) = λ a w t s b y n c h. (h.0 (const_of w t s, tt), h.2)
 
+-- Each production of the rule of constants gives formed trees.
 pub fine_constant : (ending : Option Mark) → EachFine (constant ending)
 fine_constant ending = (λ a w t s b. constant_from true ending (Some w), (constant_from false ending, tt))
 
 -- ---- operators
 
+-- Each production of the rule of expressions gives formed trees.
 pub fine_expression : (here : Scope) → EachFine (expression here)
 fine_expression here = (λ a x n b h y n' b' g. g h, tt)
 
+-- Each production of the rule of what follows a choice gives formed trees.
 pub fine_choice : (here : Scope) (x : Expr) → EachFine (choice_rest here x)
 fine_choice here x = (λ a w t s b y n c h w' t' s' b' z n' c' g i. f.is_choice i h g, (λ a i. i, tt))
 
+-- Each production of the rule of operators gives formed trees.
 pub fine_operators : (level : Level) (here : Scope) → EachFine (operators level here)
 fine_operators units here = (λ a x n b h. h, tt)
 fine_operators products here = (λ a x n b h y n' b' g. g h, tt)
@@ -57,6 +62,7 @@ fine_operators equalities here = (λ a x n b h y n' b' g. g h, tt)
 fine_operators conjunctions here = (λ a x n b h y n' b' g. g h, tt)
 fine_operators disjunctions here = (λ a x n b h y n' b' g. g h, tt)
 
+-- Each production of the rule of further operators gives formed trees.
 pub fine_more_operators : (level : Level) (here : Scope) (x : Expr) → EachFine (more_operators level here x)
 fine_more_operators units here x = (λ a i. i, tt)
 fine_more_operators products here x =
@@ -74,6 +80,7 @@ fine_more_operators conjunctions here x =
 fine_more_operators disjunctions here x =
     (λ a w t s b y n c h z n' c' g i. g (operation_of disjunctions w here.names x y t s i h), (λ a i. i, tt))
 
+-- Each production of the rule of unary operators gives formed trees.
 pub fine_unary : (here : Scope) → EachFine (unary here)
 fine_unary here =
     opened_then (unary here) here.levels (e.not_from here) _ (λ n a w t s b y m c h. f.is_not h)
@@ -82,9 +89,11 @@ fine_unary here =
 
 -- ---- primaries, and what stands behind them
 
+-- Each production of the rule of calls and indexes gives formed trees.
 pub fine_postfix : (here : Scope) → EachFine (postfix here)
 fine_postfix here = (λ a x n b h y n' b' g. g h, tt)
 
+-- Each production of the rule of further calls and indexes gives formed trees.
 pub fine_more_postfix : (here : Scope) (x : Expr) → EachFine (more_postfix here x)
 fine_more_postfix here x = (
   λ a w t s b w' t' s' b' xs n c h y n' c' g i. g (f.is_call i (name_of w' t' s') h),
@@ -92,6 +101,7 @@ fine_more_postfix here x = (
       (λ n a w t s b y m c h w' t' s' b' z m' c' g i. g (f.is_index i h)) (λ a i. i, tt),
 )
 
+-- Each production of the rule of primary expressions gives formed trees.
 pub fine_primary : (here : Scope) → EachFine (primary here)
 fine_primary here = (
   λ a w t s b. f.is_int (number_of_word w t s),
@@ -129,6 +139,7 @@ fine_primary here = (
   ),
 )
 
+-- Each production of the rule of what follows a name gives formed trees.
 pub fine_name : (here : Scope) (name : Name) → EachFine (name_rest here name)
 fine_name here name =
     opened_then (name_rest here name) here.levels (e.call_from here name) _
@@ -138,33 +149,40 @@ fine_name here name =
       tt,
     )
 
+-- Each production of the rule of arguments gives formed trees.
 pub fine_arguments : (here : Scope) → EachFine (perhaps_arguments here)
 fine_arguments here = opened_then (perhaps_arguments here) here.levels (e.arguments_from here) _
     (λ n a w t s b xs m c g w' t' s' b'. g (no_members here.names)) (λ a. f.no_more, tt)
 
 -- ---- lists
 
+-- Each production of the rule of members gives formed trees.
 pub fine_members : (here : Scope) (xs : List Expr) → EachFine (members here xs)
 fine_members here xs = (
   λ a x n c h ys n' c' g i. g (member_more here.names xs x i h),
   (λ a i. members_all here.names xs i, tt),
 )
 
+-- Each production of the rule of further members gives formed trees.
 pub fine_more_members : (here : Scope) (xs : List Expr) → EachFine (more_members here xs)
 fine_more_members here xs = (λ a w t s b ys n c g i. g i, (λ a i. members_all here.names xs i, tt))
 
+-- Each production of the rule of pairs gives formed trees.
 pub fine_pairs : (here : Scope) (ps : List (Expr × Expr)) → EachFine (pairs here ps)
 fine_pairs here ps = (
   λ a p n c h qs n' c' g i. g (pair_more here.names ps p i h),
   (λ a i. pairs_all here.names ps i, tt),
 )
 
+-- Each production of the rule of further pairs gives formed trees.
 pub fine_more_pairs : (here : Scope) (ps : List (Expr × Expr)) → EachFine (more_pairs here ps)
 fine_more_pairs here ps = (λ a w t s b qs n c g i. g i, (λ a i. pairs_all here.names ps i, tt))
 
+-- Each production of the rule of one pair gives formed trees.
 pub fine_pair : (here : Scope) → EachFine (pair here)
 fine_pair here = (λ a w t s b y n c h. (f.is_symbol (label_of w t s), h), (λ a x n c h w t s b y n' c' g. (h, g), tt))
 
+-- Each production of the rule of a text's parts gives formed trees.
 pub fine_parts : (here : Scope) (double : Bool) (ps : List Part) → EachFine (text_parts here double ps)
 fine_parts here double ps = (
   λ a w t s b qs n c g plain i p.

@@ -81,6 +81,7 @@ apart ms (marked m ∷ ts) c = (same_clashes ms m ∙ c.0, apart (m ∷ ms) ts c
 
 -- ---- files
 
+-- The law of this crate: each tree that some text has is formed.
 pub formed_text : (bytes : List ℕ) (tree : FileTree) → IsText bytes tree → FormedFile tree
 formed_text bytes tree t = record {
   deeds = deeds_in t.spelled.items;

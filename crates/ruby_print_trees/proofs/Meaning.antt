@@ -51,9 +51,11 @@ SoundWords a (w ∷ ws) = Sound w × Beside a w × SoundWords (Some w) ws
 
 -- ---- lists that are read from the left: with whatever may follow, they make a whole
 
+-- The members read so far are formed.
 abbrev pub Members : List Name → List Expr → Type 0
 Members names xs = (ys : List Expr) → f.Formed names f.some ys → f.Formed names f.some (xs ++ ys)
 
+-- The pairs read so far are formed.
 abbrev pub Pairs : List Name → List (Expr × Expr) → Type 0
 Pairs names ps = (qs : List (Expr × Expr)) → f.Formed names f.pairs qs → f.Formed names f.pairs (ps ++ qs)
 
@@ -62,10 +64,12 @@ abbrev pub Parts : List Name → Bool → List Part → Type 0
 Parts names plain ps = (qs : List Part) → f.Formed names (f.parts (not plain)) qs →
     f.Formed names (f.parts true) (ps ++ qs)
 
+-- The statements read so far are formed, and these variables are known behind them.
 abbrev pub Statements : Bool → List Name → List Stmt → List Name → Type 0
 Statements sets names ss mid = (rest : List Stmt) (after : List Name) → t.FormedStmt sets t.several mid rest after →
     t.FormedStmt sets t.several names (ss ++ rest) after
 
+-- The arms read so far are formed, and these variables are known behind them.
 abbrev pub ArmsBefore : Bool → List Name → List (Expr × List Stmt) → List Name → Type 0
 ArmsBefore sets names arms mid = (rest : List (Expr × List Stmt)) (after : List Name) →
     t.FormedStmt sets t.branches mid rest after → t.FormedStmt sets t.branches names (arms ++ rest) after
@@ -74,6 +78,7 @@ ArmsBefore sets names arms mid = (rest : List (Expr × List Stmt)) (after : List
 abbrev pub Arms : Bool → List Name → List (Expr × List Stmt) → List Name → Type 0
 Arms sets names arms mid = t.FormedStmt sets t.branches names arms mid × ArmsBefore sets names arms mid
 
+-- The definitions read so far are formed and do these deeds.
 abbrev pub Definitions : Path → List Def → List d.Deed → Type 0
 Definitions path ds es = (rest : List Def) (more : List d.Deed) → d.FormedDef path d.several_definitions rest more →
     d.FormedDef path d.several_definitions (ds ++ rest) (es ++ more)
@@ -84,14 +89,17 @@ Readers path names es = d.FormedReaders path names es
     × ((rest : List Name) (more : List d.Deed) → d.FormedReaders path rest more →
     d.FormedReaders path (names ++ rest) (es ++ more))
 
+-- The parameters read so far are names of variables, each once.
 abbrev pub Parameters : List Name → Type 0
 Parameters names = (rest : List Name) → d.FormedParameters names rest → d.FormedParameters [] (names ++ rest)
 
 -- ---- deeds
 
+-- What a mark says without its place.
 abbrev pub deed_of : Mark → d.Deed
 deed_of m = d.deed m.path m.act
 
+-- The deeds of a sentence, in order.
 abbrev pub deeds_in : List (Item ruby) → List d.Deed
 deeds_in [] = []
 deeds_in (word w ∷ ts) = deeds_in ts
@@ -104,15 +112,18 @@ ending_deeds (Some m) = deed_of m ∷ []
 
 -- ---- rules
 
+-- A value that may lack is formed where it is there.
 abbrev pub Perhaps : List Name → Option Expr → Type 0
 Perhaps names None = Unit {0}
 Perhaps names (Some x) = f.Formed names f.one x
 
+-- A word that may lack is a piece of a text where it is there.
 abbrev pub PerhapsPiece : Bool → Option Word → Type 0
 PerhapsPiece false a = Unit {0}
 PerhapsPiece true None = ⊥
 PerhapsPiece true (Some w) = is_text_piece w ≡ true
 
+-- A class's parent is a constant where it is there, and giving it is its one deed.
 abbrev pub Parent : Path → Option ConstRef → List d.Deed → Type 0
 Parent path None n = n ≡ d.deed path opens_class ∷ []
 Parent path (Some c) n = f.IsConstant c × (n ≡ d.deed path opens_class ∷ d.deed path gives_parent ∷ [])
@@ -185,5 +196,6 @@ Serves (mark k p) Q m a = Serves p Q (m ++ deed_of k ∷ []) a
 abbrev pub Fine : {s : Sort} → Rule s → Prod ruby s → Type 0
 Fine rule p = (a : Option Word) → Serves p (λ y n. Meaning rule a y n) [] a
 
+-- Each production of a rule gives what the rule is to mean.
 abbrev pub EachFine : {s : Sort} → Rule s → Type 0
 EachFine rule = Each (λ p. Fine rule p) (forms rule)

@@ -57,6 +57,7 @@ in_a_row m n ts us vs e f = append_assoc m n (deeds_in vs)
     ∙ ap (λ l. m ++ l) (ap (λ l. l ++ deeds_in vs) e ∙ sym (deeds_append us vs) ∙ ap deeds_in (sym f))
 
 module _ (fine : (s : Sort) (rule : Rule s) (p : Prod ruby s) → Among p (forms rule) → Fine rule p) where
+  -- One induction over sentences: what each production keeps, each sentence has.
   pub serves : {s : Sort} {p : Prod ruby s} {ts : List (Item ruby)} {x : Val s} → Is ruby_grammar s p ts x →
       (Q : Val s → List Deed → Type 0) (m : List Deed) (a : Option Word) →
       SoundWords a (words ts) → Serves p Q m a → Q x (m ++ deeds_in ts)

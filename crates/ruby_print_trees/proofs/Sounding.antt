@@ -107,6 +107,7 @@ sound (big {n = n} {bs = bs} h w b) p q e u a end f = tt
 sound {v = v} (stuck {s = s} {n = n} {b = b} {bs = bs} h) p q e u a end f = no_words a (p ++ ((b ∷ bs) ++ q)) end _
     (none_stuck (text_at s.opens) v s n (b ∷ bs))
 
+-- The words of a file that is cut into tokens are spelled as their kinds say.
 pub sound_words : (bytes : List ℕ) (o : Outcome) → Lexes bytes o → SoundWords None (words_of bytes (tokens_in o))
 sound_words bytes o l =
     subst (λ x. SoundWords None (words_of x (tokens_in o))) (take-append-drop (utf8_valid_len bytes) bytes)

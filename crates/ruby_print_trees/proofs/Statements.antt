@@ -15,12 +15,14 @@ use Rattle.ruby_print_trees.proofs.Lists.{opened, opened_then, no_statements, st
 use Rattle.ruby_print_trees.proofs.Lists.{arm_more}
 use Rattle.ruby_print_trees.proofs.Words.{variable_of, ivar_of}
 
+-- Each production of the rule of statements gives formed trees.
 pub fine_statements : (here : Around) (ss : List Stmt) → EachFine (statements here ss)
 fine_statements here ss = (
   λ a x n c h y n' c' g names i. g names (statement_more here.sets names here.names x.names ss x.stmt i h),
   (λ a names i. statements_all here.sets names here.names ss i, tt),
 )
 
+-- Each production of the rule of further statements gives formed trees.
 pub fine_more_statements : (here : Around) (ss : List Stmt) → EachFine (more_statements here ss)
 fine_more_statements here ss =
     (λ a w v s b y n c g names i. g names i, (λ a names i. statements_all here.sets names here.names ss i, tt))
@@ -37,6 +39,7 @@ set_fine : (here : Around) (sets : Bool) → here.sets ≡ sets →
 set_fine here true e = (λ a w v s b w' v' s' b' x n c h. t.assigns_ivar e (ivar_of w v s) h, tt)
 set_fine here false e = tt
 
+-- Each production of the rule of simple statements gives formed trees.
 pub fine_simple : (here : Around) → EachFine (simple_statement here)
 fine_simple here = (
   λ a w v s b o n c h. returns_of here.sets here.names o h,
@@ -51,11 +54,13 @@ fine_simple here = (
   ),
 )
 
+-- Each production of the rule of a value that may lack gives formed trees.
 pub fine_perhaps : (here : Scope) → EachFine (perhaps_expression here)
 fine_perhaps here = (λ a x n c h. h, (λ a. tt, tt))
 
 -- ---- conditions
 
+-- Each production of the rule of a condition behind a statement gives formed trees.
 pub fine_condition : (levels : ℕ) (x : Known) → EachFine (condition_behind levels x)
 fine_condition levels x = (
   λ a w v s b y n c h sets names i. t.conditional i h,
@@ -65,9 +70,11 @@ fine_condition levels x = (
   ),
 )
 
+-- Each production of the rule of what stands behind a condition gives formed trees.
 pub fine_then : EachFine then_or_line
 fine_then = (λ a w v s b y n c h. tt, (λ a w v s b. tt, tt))
 
+-- Each production of the rule of a line that may lack gives formed trees.
 pub fine_line : EachFine perhaps_line
 fine_line = (λ a w v s b. tt, (λ a. tt, tt))
 
@@ -88,11 +95,13 @@ branch_fine levels sets may_elsif true arms l = (
 )
 branch_fine levels sets may_elsif false arms l = tt
 
+-- Each production of the rule of an `if`'s further arms gives formed trees.
 pub fine_arms : (levels : ℕ) (sets may_elsif : Bool) (arms : List (Expr × List Stmt)) (l : Block) →
     EachFine (arms_rest levels sets may_elsif arms l)
 fine_arms levels sets may_elsif arms l =
     (λ a w v s b names i. t.block i.0 t.no_more, branch_fine levels sets may_elsif l.closed arms l)
 
+-- Each production of the rule of one statement gives formed trees.
 pub fine_statement : (here : Around) → EachFine (statement here)
 fine_statement here = (
   λ a x n c h y n' c' g. g here.sets here.names h,

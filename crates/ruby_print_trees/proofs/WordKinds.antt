@@ -90,6 +90,7 @@ by_kind k.InsideClose text n e l h = rw (← e) refl
 by_kind k.TextClose text n e l h = rw (← e) refl
 by_kind (k.Op o) text n e l h = absurd (omega (arith, op_high o, e, h))
 
+-- A word with the number of a kind is of that kind.
 pub kind_is : (kind : TokenKind) (text : List ℕ) (n : ℕ) → (kind_sign kind text == n) ≡ true → 47 < n → n < 70 →
     kind ≡ kind_of n
 kind_is kind text n h = by_kind kind text n (eqb-true (kind_sign kind text) n h)
@@ -112,10 +113,12 @@ by_name k.InsideClose text e = absurd (omega arith)
 by_name k.TextClose text e = absurd (omega arith)
 by_name (k.Op o) text e = absurd (omega (arith, op_high o, e))
 
+-- A word with the number of names is a name and no word of Ruby.
 pub name_is : (kind : TokenKind) (text : List ℕ) → (kind_sign kind text == 0) ≡ true → (kind ≡ k.Name)
     × (name_sign text ≡ 0)
 name_is kind text h = by_name kind text (eqb-true (kind_sign kind text) 0 h)
 
+-- A word with the number of an operator is an operator.
 pub op_is : (kind : TokenKind) (text : List ℕ) → 70 ≤ kind_sign kind text → (o : Op) × (kind ≡ k.Op o)
 op_is k.Line text h = absurd (omega arith)
 op_is k.Name text h = absurd (omega (arith, name_low text, h))
@@ -133,6 +136,7 @@ op_is (k.Op o) text h = (o, refl)
 
 -- ---- what stands in code
 
+-- Whether a lexeme stands inside a text.
 abbrev pub in_text : What → Bool
 in_text gap = false
 in_text (token k.TextPiece) = true
@@ -155,6 +159,7 @@ code_only None s w t r i h = i
 code_only (Some q.Double) s w t r i h = double_only i h
 code_only (Some q.Single) s w t r i h = single_only i h
 
+-- A lexeme outside texts is one of code.
 pub in_code : (s : State) (w : What) (t r : List ℕ) → IsIn (text_at s.opens) s w t r → in_text w ≡ false →
     InCode s w t r
 in_code s w t r i h = code_only (text_at s.opens) s w t r i h

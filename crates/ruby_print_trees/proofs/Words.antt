@@ -83,6 +83,7 @@ plain_of (naming.suffixed {n = t} q p s) h = absurd (no_suffix (ends_in_suffix (
 of_kind : (w : Word) (kind : TokenKind) → w.kind ≡ kind → (s : Sound w) → l.Is s.state (l.token kind) w.text s.rest
 of_kind w kind e s = subst (λ x. l.Is s.state (l.token x) w.text s.rest) e s.spelled
 
+-- A method's name is spelled as one.
 pub name_of : (w : Word) → is_name w ≡ true → Sound w → IsMethodName w.text
 name_of w h s =
     let e = name_is w.kind w.text h in
@@ -91,27 +92,32 @@ name_of w h s =
       free = e.1;
     }
 
+-- A variable's name is spelled as one.
 pub variable_of : (w : Word) → is_variable w ≡ true → Sound w → IsVariableName w.text
 variable_of w h s =
     let p = and_true (is_name w) _ h in
     let m = name_of w p.0 s in
     record { spelled = plain_of m.spelled p.1; free = m.free }
 
+-- A constant's name is spelled as one.
 pub const_of : (w : Word) → is_const w ≡ true → Sound w → IsConstName w.text
 const_of w h s = const_text
     (in_code s.state (l.token k.Const) w.text s.rest
     (of_kind w k.Const (kind_is w.kind w.text 51 h (omega arith) (omega arith)) s) refl)
 
+-- An instance variable's name is spelled as one.
 pub ivar_of : (w : Word) → is_ivar w ≡ true → Sound w → IsPlainName (behind_sign w.text)
 ivar_of w h s = ivar_text
     (in_code s.state (l.token k.Ivar) w.text s.rest
     (of_kind w k.Ivar (kind_is w.kind w.text 52 h (omega arith) (omega arith)) s) refl)
 
+-- A label's name is spelled as a symbol.
 pub label_of : (w : Word) → is_label w ≡ true → Sound w → IsSymbolName (before_colon w.text)
 label_of w h s = label_text
     (in_code s.state (l.token k.Label) w.text s.rest
     (of_kind w k.Label (kind_is w.kind w.text 53 h (omega arith) (omega arith)) s) refl)
 
+-- A symbol's name is spelled as one.
 pub symbol_of : (w : Word) → is_sym w ≡ true → Sound w → IsSymbolName (behind_sign w.text)
 symbol_of w h s = symbol_text
     (in_code s.state (l.token k.Sym) w.text s.rest
@@ -121,6 +127,7 @@ not_big : (b : Bool) → not b ≡ false → b ≡ true
 not_big true h = refl
 not_big false h = cc
 
+-- A number's value is of 64 bits.
 pub number_of_word : (w : Word) → is_int w ≡ true → Sound w → IsInRange (number_of w.text)
 number_of_word w h s =
     let e = kind_is w.kind w.text 55 h (omega arith) (omega arith) in
@@ -134,6 +141,7 @@ piece_some None s t r i double = elim i [ ]
 piece_some (Some q.Double) s t r (piece {b = b} {t = u} p) double = text_some double b u
 piece_some (Some q.Single) s t r (piece_single {b = b} {t = u} p) double = text_some double b u
 
+-- A piece's bytes are UTF-8 and some.
 pub piece_of : (w : Word) → is_text_piece w ≡ true → Sound w → (double : Bool) → (text_bytes double w.text ≢ [])
     × IsUtf8 (text_bytes double w.text)
 piece_of w h s double =
@@ -202,6 +210,7 @@ called_of sums n h a b c = grind (arith, nat_tests)
 called_of products n h a b c = grind (arith, nat_tests)
 called_of units n h a b c = cc
 
+-- An operator over formed sides is formed.
 pub operation_of : (level : Level) (w : Word) (names : List Name) (x y : Expr) → is_operator level w ≡ true →
     Sound w → Formed names one x → Formed names one y → Formed names one (operation w x y)
 operation_of level w names x y h s i j =

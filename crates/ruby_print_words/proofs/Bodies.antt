@@ -45,12 +45,14 @@ pub record Lot (around_it : Path) (body_of : List Def) (ds : List Deed) (l : ℕ
 
 -- ---- several definitions
 
+-- No definitions are read of nothing.
 pub no_definitions : (path : Path) (l : ℕ) → Lot path [] [] l
 no_definitions path l = record {
   read = λ n indent before.
       tells (later first) (m_valued (sym (append-nil before)) m_given);
 }
 
+-- A definition before others is read before them.
 pub definitions_more : (path : Path) (d : Def) (xs : List Def) (ds es : List Deed) (l : ℕ) → One path d ds l →
     Lot path xs es l → Lot path (d ∷ xs) (ds ++ es) l
 definitions_more path d xs ds es l h k = record {
@@ -70,6 +72,7 @@ path_rest_reads true m names h = path_reads (m ∷ []) names
 path_rest_reads false m [] h = reads first given
 path_rest_reads false m (o ∷ names) h = absurd h
 
+-- A printed module is read as it is.
 pub module_read : (path : Path) (names : List Name) (xs : List Def) (ds : List Deed) (l : ℕ) →
     FormedPath path names → Under (Lot (path ++ names) xs ds) l →
     One path (def.Module names xs) (deed (path ++ names) opens_module ∷ ds) l
@@ -83,6 +86,7 @@ module_read path (m ∷ names) xs ds (suc l) f h = record {
       (m_takes refl (m_mark (m_then_plain (h.read _ (deeper indent) []) (m_takes refl m_given))))))));
 }
 
+-- A printed class without a parent is read as it is.
 pub class_read : (path : Path) (names : List Name) (xs : List Def) (ds : List Deed) (l : ℕ) → FormedPath path names →
     Under (Lot (path ++ names) xs ds) l → One path (def.Class names None xs) (deed (path ++ names) opens_class ∷ ds) l
 class_read path [] xs ds l f h = absurd f.0
@@ -124,6 +128,7 @@ parent_told path at c n h =
     tells first (m_takes refl
     (m_mark (m_then_plain (constant_marked (counts path gives_parent at) c space _ h) (m_takes refl m_given))))
 
+-- A printed class with a parent is read as it is.
 pub subclass_read : (path : Path) (names : List Name) (c : ConstRef) (xs : List Def) (ds : List Deed) (l : ℕ) →
     FormedPath path names → IsConstant c → Under (Lot (path ++ names) xs ds) l →
     One path (def.Class names (Some c) xs) (deed (path ++ names) opens_class ∷ deed (path ++ names) gives_parent ∷ ds) l
@@ -142,6 +147,7 @@ subclass_read path (m ∷ names) c xs ds (suc l) f i h = record {
 
 -- ---- assignments
 
+-- A printed constant's assignment is read as it is.
 pub assignment_read : (path : Path) (t : Name) (x : Expr) (l : ℕ) → Ready [] x l →
     One path (def.Assign t x) (deed (path ++ t ∷ []) assigns ∷ []) l
 assignment_read path t x l r = record {
@@ -162,6 +168,7 @@ in_body : (path : Path) (l : ℕ) {p : Prod ruby a_def} → at_top path ≡ fals
     Among p (top_forms (body l false path) ++ member_forms (at_top path) (body l false path))
 in_body path l e am = among_behind (top_forms (body l false path)) (among_member (at_top path) (body l false path) e am)
 
+-- A printed `include` is read as it is.
 pub include_read : (path : Path) (c : ConstRef) (l : ℕ) → at_top path ≡ false → IsConstant c →
     One path (def.Include c) [] l
 include_read path c l e h = record {
@@ -191,6 +198,7 @@ readers_told {path} l e (last_reader h) n indent = tells (in_body path l e (late
 readers_told {path} l e (reader_more {n = o} h rest) n indent = tells (in_body path l e (later first))
     (m_takes refl (m_takes refl (m_mark (m_ends (readers_more rest (o ∷ []) _) m_given))))
 
+-- Printed readers are read as they are.
 pub readers_read : (path : Path) (names : List Name) (ds : List Deed) (l : ℕ) → at_top path ≡ false →
     FormedReaders path names ds → One path (def.Readers names) ds l
 readers_read path names ds l e h =
@@ -235,6 +243,7 @@ parameters_told (suc l) m (o ∷ params) h u n =
     (reads first (takes (variable_passes o [] h.0) (λ i. refl) (says (parameters_more (o ∷ []) params h.2)))))
     (m_takes refl (m_takes refl m_given))))))
 
+-- A printed method is read as it is.
 pub method_read : (path : Path) (single : Bool) (t : Name) (params after : List Name) (ss : List Stmt) (l : ℕ) →
     at_top path ≡ false → name_sign t ≡ 0 → FormedParameters [] params →
     Under (λ l. Under (λ l. Unit {0}) l × Several (sets_in single t) params ss after l) l →

@@ -28,6 +28,7 @@ pub record Simple (sets : Bool) (names : List Name) (s : Stmt) (after : List Nam
   pub read : (indent : List ℕ) → Reads (rule.simple_statement (around l sets names)) (statement s indent)
       (known s after)
 
+-- A printed expression is read as a statement.
 pub evaluates_read : (sets : Bool) (names : List Name) (x : Expr) (l : ℕ) → Ready names x l →
     Simple sets names (stmt.Expr x) names l
 evaluates_read sets names x l r = record {
@@ -59,10 +60,12 @@ both_true true true h e = cc
 both_true true false h e = refl
 both_true false b h e = cc
 
+-- A printed name of a variable passes the test for one.
 pub variable_passes : (n gap : List ℕ) → IsVariableName n → (at : ℕ) → is_variable (word_at at (name gap n)) ≡ true
 variable_passes n gap h at = both_true (name_sign n == 0) (ends_in_suffix n) (ap (λ m. m == 0) h.free)
     (plain_ends n h.spelled)
 
+-- A printed assignment is read as it is.
 pub assigns_read : (sets : Bool) (names : List Name) (n : Name) (x : Expr) (l : ℕ) → IsVariableName n →
     Ready (n ∷ names) x l → Simple sets names (stmt.Set n x) (n ∷ names) l
 assigns_read sets names n x l h r = record {
@@ -72,6 +75,7 @@ assigns_read sets names n x l h r = record {
       (takes (λ m. refl) (λ m. refl) (ends (r.alone space) given))));
 }
 
+-- A printed instance variable's assignment is read where it may stand.
 pub assigns_ivar_read : (sets : Bool) (names : List Name) (n : Name) (x : Expr) (l : ℕ) → sets ≡ true →
     Ready names x l → Simple sets names (stmt.SetIvar n x) names l
 assigns_ivar_read false names n x l e r = cc
@@ -89,13 +93,16 @@ returned names o l h sets =
           (reads first (takes (λ m. refl) (λ m. refl) (ends h given)));
     }
 
+-- A printed `return` alone is read as it is.
 pub returns_read : (sets : Bool) (names : List Name) (l : ℕ) → Simple sets names (stmt.Return None) names l
 returns_read sets names l = returned names None l (reads (later first) given) sets
 
+-- A printed `return` with its value is read as it is.
 pub returns_value_read : (sets : Bool) (names : List Name) (x : Expr) (l : ℕ) → Ready names x l →
     Simple sets names (stmt.Return (Some x)) names l
 returns_value_read sets names x l r = returned names (Some x) l (reads first (ends (r.alone space) given)) sets
 
+-- A printed `raise` is read as it is.
 pub raises_read : (sets : Bool) (names : List Name) (x : Expr) (l : ℕ) → Ready names x l →
     Simple sets names (stmt.Raise x) names l
 raises_read sets names x l r = record {
@@ -108,11 +115,13 @@ raises_read sets names x l r = record {
 pub record Whole (sets : Bool) (names : List Name) (s : Stmt) (after : List Name) (l : ℕ) : Type 0 where
   pub read : (indent : List ℕ) → Reads (rule.statement (around l sets names)) (statement s indent) (known s after)
 
+-- A simple statement without a condition is a whole one.
 pub plain_read : (sets : Bool) (names : List Name) (s : Stmt) (after : List Name) (l : ℕ) →
     Simple sets names s after l → Whole sets names s after l
 plain_read sets names s after l h =
     record { read = λ indent. reads first (ends (h.read indent) (says (reads (later (later first)) given))) }
 
+-- A printed `if` behind its statement is read as it is.
 pub conditional_read : (sets : Bool) (names : List Name) (s : Stmt) (x : Expr) (after : List Name) (l : ℕ) →
     Simple sets names s after l → Ready after x l → Whole sets names (stmt.If ((x, s ∷ []) ∷ []) [] true) after l
 conditional_read sets names s x after l h r = record {
@@ -130,6 +139,7 @@ pub record Several (sets : Bool) (names : List Name) (ss : List Stmt) (after : L
       Reads (rule.statements (around l sets names) before) (lines indent (map statement ss))
       (block (before ++ ss) after true)
 
+-- No statements are read of nothing.
 pub no_statements : (sets : Bool) (names : List Name) (l : ℕ) → Several sets names [] names l
 no_statements sets names l =
     record {
@@ -137,6 +147,7 @@ no_statements sets names l =
           reads (later first) (valued (ap (λ t. block t names true) (sym (append-nil before))) given);
     }
 
+-- A statement before others is read before them.
 pub statements_more : (sets : Bool) (names mid after : List Name) (s : Stmt) (ss : List Stmt) (l : ℕ) →
     Whole sets names s mid l → Several sets mid ss after l → Several sets names (s ∷ ss) after l
 statements_more sets names mid after s ss l h k = record {
@@ -149,6 +160,7 @@ statements_more sets names mid after s ss l h k = record {
 
 -- ---- the arms of an `if`
 
+-- An arm with its statements' layout.
 abbrev pub laid_arm : Expr × List Stmt → Expr × List Placed
 laid_arm a = (a.0, map statement a.1)
 
@@ -179,6 +191,7 @@ arm_sent sets names mid before x ss l r h indent qs y k =
 arm_whole : (c i t qs : List Piece) → (c ++ (i ++ t)) ++ qs ≡ c ++ (i ++ (t ++ qs))
 arm_whole c i t qs = append_assoc c (i ++ t) qs ∙ ap (λ u. c ++ u) (append_assoc i t qs)
 
+-- The last arm is read as it is.
 pub last_arm_tail : (sets : Bool) (names after : List Name) (x : Expr) (ss : List Stmt) (l : ℕ) → Ready names x l →
     Several sets names ss after l → Arms sets names ((x, ss) ∷ []) after l
 last_arm_tail sets names after x ss l r h = record {
@@ -189,6 +202,7 @@ last_arm_tail sets names after x ss l r h = record {
   };
 }
 
+-- An arm before others is read before them.
 pub arm_more_tail : (sets : Bool) (names mid after : List Name) (x : Expr) (ss : List Stmt)
     (as' : List (Expr × List Stmt)) (l : ℕ) → Ready names x l → Several sets names ss mid l →
     Arms sets mid as' after l →
@@ -210,12 +224,14 @@ arm_more_tail sets names mid after x ss as' l r h a = record {
 
 -- ---- what follows the arms
 
+-- Arms without `else` end at `end`.
 pub no_else : (sets : Bool) (names : List Name) (as' : List (Expr × List Stmt)) (ss : List Stmt) (indent : List ℕ)
     (l : ℕ) →
     Reads (arms_rest l sets true as' (block ss names true)) (otherwise indent [] ++ name indent (codes "end") ∷ [])
     (known (stmt.If as' [] false) names)
 no_else sets names as' ss indent l = reads first (takes (λ m. refl) (λ m. refl) given)
 
+-- Arms with `else` are read with its statements.
 pub else_read : (sets : Bool) (names after : List Name) (as' : List (Expr × List Stmt)) (ss : List Stmt) (s : Stmt)
     (other : List Stmt) (indent : List ℕ) (l : ℕ) → Several sets names (s ∷ other) after l →
     Reads (arms_rest l sets true as' (block ss names true))
@@ -232,6 +248,7 @@ pub record Rest (sets : Bool) (names : List Name) (other : List Stmt) (after : L
       (otherwise indent (map statement other) ++ name indent (codes "end") ∷ [])
       (known (stmt.If as' other false) after)
 
+-- A printed block `if` is read as it is.
 pub block_read : (sets : Bool) (names mid after : List Name) (as' : List (Expr × List Stmt)) (other : List Stmt)
     (l : ℕ) → Under (λ l. Arms sets names as' mid l × Rest sets mid other after l) l →
     Whole sets names (stmt.If as' other false) after l

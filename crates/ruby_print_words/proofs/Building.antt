@@ -17,7 +17,7 @@ abbrev pub end_of : ℕ → List Piece → ℕ
 end_of n [] = n
 end_of n (p ∷ ps) = end_of (behind_piece n p) ps
 
-pub items-append : (n : ℕ) (ps qs : List Piece) → items_at n (ps ++ qs) ≡ items_at n ps ++ items_at (end_of n ps) qs
+items-append : (n : ℕ) (ps qs : List Piece) → items_at n (ps ++ qs) ≡ items_at n ps ++ items_at (end_of n ps) qs
 items-append n [] qs = refl
 items-append n (p ∷ ps) qs = ap (λ ts. word (word_at n p) ∷ ts) (items-append (behind_piece n p) ps qs)
 
@@ -31,10 +31,12 @@ pub record Reads {s : Sort} (rule : Rule s) (ps : List Piece) (x : Val s) : Type
   pub among : Among form (forms rule)
   pub sent : Sent form ps x
 
+-- A sentence of one of a rule's productions is one of the rule.
 pub reads : {s : Sort} {rule : Rule s} {form : Prod ruby s} {ps : List Piece} {x : Val s} → Among form (forms rule) →
     Sent form ps x → Reads rule ps x
 reads {form} am h = record { form = form; among = am; sent = h }
 
+-- Nothing is a sentence of a value that is given.
 pub given : {s : Sort} {x : Val s} → Sent (give x) [] x
 given = record { at = λ n. is_given }
 
@@ -58,6 +60,7 @@ then_ {us} {vs} r h = record { at = λ n. is_called r.among (r.sent.at n) (h.at 
 pub over : {s : Sort} {p : Prod ruby s} {ps qs : List Piece} {x : Val s} → ps ≡ qs → Sent p qs x → Sent p ps x
 over {s} {p} {ps} {qs} {x} e h = subst (λ t. Sent p t x) (sym e) h
 
+-- Equal pieces are read alike.
 pub over_rule : {s : Sort} {rule : Rule s} {ps qs : List Piece} {x : Val s} → ps ≡ qs → Reads rule qs x →
     Reads rule ps x
 over_rule {s} {rule} {ps} {qs} {x} e h = subst (λ t. Reads rule t x) (sym e) h
@@ -66,6 +69,7 @@ over_rule {s} {rule} {ps} {qs} {x} e h = subst (λ t. Reads rule t x) (sym e) h
 pub valued : {s : Sort} {p : Prod ruby s} {ps : List Piece} {x y : Val s} → x ≡ y → Sent p ps x → Sent p ps y
 valued {s} {p} {ps} {x} {y} e h = subst (λ t. Sent p ps t) e h
 
+-- Equal values are read alike.
 pub valued_rule : {s : Sort} {rule : Rule s} {ps : List Piece} {x y : Val s} → x ≡ y → Reads rule ps x → Reads rule ps y
 valued_rule {s} {rule} {ps} {x} {y} e h = subst (λ t. Reads rule ps t) e h
 
@@ -74,6 +78,7 @@ pub ends : {s v : Sort} {rule : Rule v} {next : Val v → Prod ruby s} {us : Lis
     Reads rule us y → Sent (next y) [] x → Sent (call rule next) us x
 ends {us} r h = over (sym (append-nil us)) (then_ r h)
 
+-- A rule's sentence is one of the production that calls it last.
 pub says : {s : Sort} {rule : Rule s} {ps : List Piece} {x : Val s} → Reads rule ps x → Sent (only rule) ps x
 says r = ends r given
 
@@ -89,12 +94,15 @@ abbrev pub Under : (ℕ → Type 0) → ℕ → Type 0
 Under P zero = ⊥
 Under P (suc l) = P l
 
+-- What holds at every level holds from some level on.
 pub always : {P : ℕ → Type 0} → ((l : ℕ) → P l) → Eventually P
 always h = record { least = 0; holds = λ l e. h l }
 
+-- What follows at each level follows from some level on.
 pub so : {P Q : ℕ → Type 0} → ((l : ℕ) → P l → Q l) → Eventually P → Eventually Q
 so f p = record { least = p.least; holds = λ l e. f l (p.holds l e) }
 
+-- Two that hold from some level on hold together from the greater one on.
 pub both : {P Q : ℕ → Type 0} → Eventually P → Eventually Q → Eventually (λ l. P l × Q l)
 both p q = record { least = p.least + q.least; holds = λ l e. (p.holds l (omega arith), q.holds l (omega arith)) }
 
@@ -102,5 +110,6 @@ under_at : {P : ℕ → Type 0} (p : Eventually P) (l : ℕ) → suc p.least ≤
 under_at p zero e = absurd (omega arith)
 under_at p (suc l) e = p.holds l (omega arith)
 
+-- What holds from some level on holds inside one more level.
 pub deeper : {P : ℕ → Type 0} → Eventually P → Eventually (Under P)
 deeper p = record { least = suc p.least; holds = λ l e. under_at p l e }

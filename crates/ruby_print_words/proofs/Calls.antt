@@ -22,6 +22,7 @@ use Rattle.ruby_print_words.proofs.Lists.{Members}
 
 -- ---- on self
 
+-- A printed call on self is read as it is.
 pub self_call_ready : (names : List Name) (l : ℕ) (n : Name) (xs : List Expr) → name_sign n ≡ 0 →
     Under (Members names xs) l → Ready names (expr.Call None n xs) l
 self_call_ready names zero n xs free h = absurd h
@@ -77,6 +78,7 @@ call_goes_on {names} {l} x n xs free r h gap more y g =
     (reads first (takes (λ n. refl) (λ n. refl)
     (takes (is_free n [] free) (λ n. refl) (then_ (arguments_read names l xs h) (says g))))))
 
+-- A printed call behind a point is read as it is.
 pub call_ready : (names : List Name) (l : ℕ) (x : Expr) (n : Name) (xs : List Expr) → IsName n → name_sign n ≡ 0 →
     Ready names x l → Under (Members names xs) l → Ready names (expr.Call (Some x) n xs) l
 call_ready names l x n xs named free r h =
@@ -101,6 +103,7 @@ index_goes_on names (suc l) x y r h gap more z g =
     (over (append_assoc (members [] (expression y ∷ [])) (close_bracket ∷ []) more)
     (then_ (over_rule (append-nil (expression y [] true)) (inner h [])) (takes (λ n. refl) (λ n. refl) (says g)))))))
 
+-- A printed index is read as it is.
 pub index_ready : (names : List Name) (l : ℕ) (x y : Expr) → Ready names x l → Under (Ready names y) l →
     Ready names (expr.Call (Some x) (codes "[]") (y ∷ [])) l
 index_ready names l x y r h =

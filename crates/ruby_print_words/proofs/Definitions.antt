@@ -10,10 +10,12 @@ use Rattle.ruby_print_words.proofs.Statements.{told}
 use Rattle.ruby_print_words.proofs.Bodies.{One, Lot, no_definitions, definitions_more, module_read, class_read}
 use Rattle.ruby_print_words.proofs.Bodies.{subclass_read, assignment_read, include_read, readers_read, method_read}
 
+-- What is shown of a formed definition's pieces, by its form.
 abbrev pub Defined : Path → (f : Form) → Held f → List Deed → ℕ → Type 0
 Defined path definition d ds = One path d ds
 Defined path several_definitions xs ds = Lot path xs ds
 
+-- The pieces of each formed definition are read as it is, with its deeds.
 pub defined : {path : Path} {f : Form} {x : Held f} {ds : List Deed} → FormedDef path f x ds →
     Eventually (Defined path f x ds)
 defined (f.is_module {path} {names} {body} {ds} p h) = so (λ l r. module_read path names body ds l p r)

@@ -13,12 +13,14 @@ use Rattle.ruby_print_words.proofs.Calls.{self_call_ready, call_ready, index_rea
 use Rattle.ruby_print_words.proofs.Operations.{not_ready, minus_ready, and_ready, or_ready, operation_ready}
 use Rattle.ruby_print_words.proofs.Operations.{choice_ready}
 
+-- What is shown of a formed expression's pieces, by its form.
 abbrev pub Shown : List Name → (f : Form) → Held f → ℕ → Type 0
 Shown names one x = Ready names x
 Shown names some xs = Members names xs
 Shown names pairs ps = Pairs names ps
 Shown names (parts b) ps = Parts names ps
 
+-- The pieces of each formed expression are read as it is.
 pub shown : {names : List Name} {f : Form} {x : Held f} → Formed names f x → Eventually (Shown names f x)
 shown {names} f.is_nil = always (nil_ready names)
 shown {names} f.is_true = always (true_ready names)

@@ -31,6 +31,7 @@ spelled_of tree l ds apart h =
           clear_of [] h.items (subst (λ es. Apart [] es) (sym h.does) apart);
     }
 
+-- The law of this crate: the printed words of a formed tree are a file of the grammar with that tree.
 pub formed_is_spelled : (tree : FileTree) → FormedFile tree → (levels : ℕ)
     × Spells ruby_grammar (file levels false) (words_at 0 (file_pieces tree)) tree
 formed_is_spelled tree f = let e = defined f.formed in (

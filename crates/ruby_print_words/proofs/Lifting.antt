@@ -19,19 +19,21 @@ use Rattle.ruby_print_words.proofs.Building.{Under, so, both, deeper}
 
 -- ---- nothing follows
 
-pub no_postfix : (here : Scope) (x : Expr) → Reads (more_postfix here x) [] x
+no_postfix : (here : Scope) (x : Expr) → Reads (more_postfix here x) [] x
 no_postfix here x = reads (later (among_behind (opening here.levels (index_from here x)) first)) given
 
+-- An expression without `?` behind it is a whole one.
 pub no_choice : (here : Scope) (x : Expr) → Reads (choice_rest here x) [] x
 no_choice here x = reads (later first) given
 
+-- An expression without an operator behind it is a whole one of its level.
 pub no_operator : (k : Level) (here : Scope) (x : Expr) → Reads (more_operators k here x) [] x
 no_operator units here x = reads first given
 no_operator k here x = reads (later first) given
 
 -- ---- from a level to looser ones
 
-pub looser : (k : Level) (here : Scope) {ps : List Piece} {x : Expr} → Reads (operators (tighter k) here) ps x →
+looser : (k : Level) (here : Scope) {ps : List Piece} {x : Expr} → Reads (operators (tighter k) here) ps x →
     Reads (operators k here) ps x
 looser units here r = r
 looser k here {ps} {x} r = reads first (ends r (says (no_operator k here x)))
@@ -54,7 +56,7 @@ loosened disjunctions here r =
     (looser equalities here (looser comparisons here (looser sums here (looser products here r)))))
 
 -- from any level to the loosest
-pub loosest : (k : Level) (here : Scope) {ps : List Piece} {x : Expr} → Reads (operators k here) ps x →
+loosest : (k : Level) (here : Scope) {ps : List Piece} {x : Expr} → Reads (operators k here) ps x →
     Reads (operators disjunctions here) ps x
 loosest units here r = loosened disjunctions here r
 loosest products here r =
@@ -67,10 +69,12 @@ loosest equalities here r = looser disjunctions here (looser conjunctions here r
 loosest conjunctions here r = looser disjunctions here r
 loosest disjunctions here r = r
 
+-- What is read at a level of operators is read as an expression.
 pub whole : (k : Level) (here : Scope) {ps : List Piece} {x : Expr} → Reads (operators k here) ps x →
     Reads (rule.expression here) ps x
 whole k here {ps} {x} r = reads first (ends (loosest k here r) (says (no_choice here x)))
 
+-- What is read as an operand is read at the tightest level of operators.
 pub of_unary : (here : Scope) {ps : List Piece} {x : Expr} → Reads (unary here) ps x → Reads (operators units here) ps x
 of_unary here r = reads first (says r)
 
@@ -88,6 +92,7 @@ stops : (k : Level) (here : Scope) (x : Expr) → Sent (operators_behind (repeat
 stops equalities here x = given
 stops k here x = says (no_operator k here x)
 
+-- Two sides and an operator between them are read as its operation.
 pub operates : (k : Level) (here : Scope) (o : Op) (text : List ℕ) {us vs : List Piece} {x y : Expr} →
     is_operator k (word_at 0 (mark space o text)) ≡ true →
     Reads (operators units here) us x → Reads (operators units here) vs y →
@@ -106,16 +111,19 @@ pub record Ready (names : List Name) (x : Expr) (l : ℕ) : Type 0 where
       Reads (postfix (scope l names)) (expression x gap true ++ more) y
   pub alone : (gap : List ℕ) → Reads (rule.expression (scope l names)) (expression x gap false) x
 
+-- An expression inside another is read as an operand.
 pub unary_operand : {names : List Name} {x : Expr} {l : ℕ} → Ready names x l → (gap : List ℕ) →
     Reads (unary (scope l names)) (expression x gap true) x
 unary_operand {names} {x} {l} r gap =
     unary_postfix (scope l names)
     (over_rule (sym (append-nil (expression x gap true))) (r.inside gap [] x (no_postfix (scope l names) x)))
 
+-- The same at the tightest level of operators.
 pub operand : {names : List Name} {x : Expr} {l : ℕ} → Ready names x l → (gap : List ℕ) →
     Reads (operators units (scope l names)) (expression x gap true) x
 operand {names} {x} {l} r gap = of_unary (scope l names) (unary_operand r gap)
 
+-- An expression inside another is read as an expression.
 pub inner : {names : List Name} {x : Expr} {l : ℕ} → Ready names x l → (gap : List ℕ) →
     Reads (rule.expression (scope l names)) (expression x gap true) x
 inner {names} {x} {l} r gap = whole units (scope l names) (operand r gap)
@@ -131,6 +139,7 @@ open_ready {names} {x} {l} pieces e h = record {
       (whole units (scope l names) (of_postfix (scope l names) (h gap [] x (no_postfix (scope l names) x))));
 }
 
+-- An expression that never takes parentheses is read inside and alone.
 pub primary_ready : {names : List Name} {x : Expr} {l : ℕ} (pieces : List ℕ → List Piece) →
     ((gap : List ℕ) (inside : Bool) → expression x gap inside ≡ pieces gap) →
     ((gap : List ℕ) → Reads (primary (scope l names)) (pieces gap) x) → Ready names x l
@@ -152,6 +161,7 @@ grouped (suc l) names {x} body e h u = record {
         (later (later (later (later (later (later (later (later (later (later (later first))))))))))))
         (takes (λ n. refl) (λ n. refl) (then_ (u []) (takes (λ n. refl) (λ n. refl) given)))
 
+-- An expression that takes parentheses inside others is read inside and alone.
 pub enclosed_ready : {names : List Name} {x : Expr} (body : List ℕ → List Piece) →
     ((gap : List ℕ) (inside : Bool) → expression x gap inside ≡ enclosed body gap inside) →
     Eventually (λ l. (gap : List ℕ) → Reads (rule.expression (scope l names)) (body gap) x) → Eventually (Ready names x)

@@ -34,9 +34,11 @@ behind_member : {names : List Name} (xs : List Expr) {l : ℕ} → Members names
 behind_member [] h before = reads (later first) (valued (sym (append-nil before)) given)
 behind_member (x ∷ xs) h before = reads first (takes (λ n. refl) (λ n. refl) (says (h.read space before)))
 
+-- No members are read of nothing.
 pub no_members : (names : List Name) (l : ℕ) → Members names [] l
 no_members names l = record { read = λ gap before. reads (later first) (valued (sym (append-nil before)) given) }
 
+-- A member before others is read before them.
 pub members_more : {names : List Name} {x : Expr} {xs : List Expr} {l : ℕ} → Ready names x l → Members names xs l →
     Members names (x ∷ xs) l
 members_more {names} {x} {xs} {l} r h = record {
@@ -45,6 +47,7 @@ members_more {names} {x} {xs} {l} r h = record {
       (valued (append_assoc before (x ∷ []) xs) (says (behind_member xs h (before ++ x ∷ [])))));
 }
 
+-- A printed array is read as it is.
 pub array_ready : (names : List Name) (l : ℕ) (xs : List Expr) → Under (Members names xs) l →
     Ready names (expr.Array xs) l
 array_ready names zero xs h = absurd h
@@ -73,6 +76,7 @@ behind_pair : {names : List Name} (ps : List (Expr × Expr)) {l : ℕ} → Pairs
 behind_pair [] h before = reads (later first) (valued (sym (append-nil before)) given)
 behind_pair (p ∷ ps) h before = reads first (takes (λ n. refl) (λ n. refl) (says (h.read space before)))
 
+-- No pairs are read of nothing.
 pub no_pairs : (names : List Name) (l : ℕ) → Pairs names [] l
 no_pairs names l = record { read = λ gap before. reads (later first) (valued (sym (append-nil before)) given) }
 
@@ -81,6 +85,7 @@ one_pair : {names : List Name} {x y : Expr} {l : ℕ} → Ready names x l → Re
 one_pair r s gap = reads (later first)
     (then_ (inner r gap) (takes (λ n. refl) (λ n. refl) (ends (inner s space) given)))
 
+-- A pair before others is read before them.
 pub pairs_more : {names : List Name} {x y : Expr} {ps : List (Expr × Expr)} {l : ℕ} → Ready names x l →
     Ready names y l → Pairs names ps l → Pairs names ((x, y) ∷ ps) l
 pairs_more {names} {x} {y} {ps} {l} r s h = record {
@@ -93,6 +98,7 @@ first_gap : (ps : List (Laid × Laid)) → pairs ps ≡ pairs_at [] ps
 first_gap [] = refl
 first_gap (p ∷ ps) = refl
 
+-- A printed hash is read as it is.
 pub hash_ready : (names : List Name) (l : ℕ) (ps : List (Expr × Expr)) → Under (Pairs names ps) l →
     Ready names (expr.Hash ps) l
 hash_ready names zero ps h = absurd h
@@ -105,12 +111,14 @@ hash_ready names (suc l) ps h =
 
 -- ---- parts of a text
 
+-- The pieces of a text's parts.
 abbrev pub parts_pieces : List Part → List Piece
 parts_pieces ps = flat_map (λ part. part) (map pieces.part ps)
 
 pub record Parts (names : List Name) (ps : List Part) (l : ℕ) : Type 0 where
   pub read : (before : List Part) → Reads (rule.text_parts (scope l names) true before) (parts_pieces ps) (before ++ ps)
 
+-- No parts are read of nothing.
 pub no_parts : (names : List Name) (l : ℕ) → Parts names [] l
 no_parts names l = record {
   read = λ before.
@@ -118,6 +126,7 @@ no_parts names l = record {
       (valued (sym (append-nil before)) given);
 }
 
+-- A plain part before others is read before them.
 pub plain_more : {names : List Name} {ps : List Part} {l : ℕ} (text : List ℕ) → Parts names ps l →
     Parts names (part.Plain text ∷ ps) l
 plain_more {names} {ps} {l} text h = record {
@@ -128,6 +137,7 @@ plain_more {names} {ps} {l} text h = record {
       (says (h.read (before ++ part.Plain _ ∷ []))))));
 }
 
+-- An inside part before others is read before them.
 pub inside_more : (names : List Name) (l : ℕ) (x : Expr) (ps : List Part) → Under (Ready names x) l →
     Parts names ps l → Parts names (part.Inside x ∷ ps) l
 inside_more names zero x ps r h = absurd r
@@ -140,6 +150,7 @@ inside_more names (suc l) x ps r h = record {
       (valued (append_assoc before (part.Inside x ∷ []) ps) (says (h.read (before ++ part.Inside x ∷ [])))))))));
 }
 
+-- A printed text is read as it is.
 pub text_ready : (names : List Name) (l : ℕ) (ps : List Part) → Parts names ps l → Ready names (expr.Str ps) l
 text_ready names l ps h =
     primary_ready (λ gap. piece gap k.TextOpen (34 ∷ []) ∷ (parts_pieces ps ++ piece [] k.TextClose (34 ∷ []) ∷ []))

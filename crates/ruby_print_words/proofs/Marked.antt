@@ -12,9 +12,11 @@ use Rattle.ruby_print_words.proofs.Building.{items_at, end_of, Sent, Reads}
 
 -- ---- the deeds of items
 
+-- What a mark says without its place.
 abbrev pub deed_of : Mark → Deed
 deed_of m = deed m.path m.act
 
+-- The deeds of a sentence, in order.
 abbrev pub deeds_in : List (Item ruby) → List Deed
 deeds_in [] = []
 deeds_in (word w ∷ ts) = deeds_in ts
@@ -57,6 +59,7 @@ pub record Tells {s : Sort} (n : ℕ) (rule : Rule s) (ps : List Piece) (ds : Li
   pub among : Among form (forms rule)
   pub told : Marked n form ps ds x
 
+-- A marked sentence of one of a rule's productions is one of the rule.
 pub tells : {s : Sort} {n : ℕ} {rule : Rule s} {form : Prod ruby s} {ps : List Piece} {ds : List Deed} {x : Val s} →
     Among form (forms rule) → Marked n form ps ds x → Tells n rule ps ds x
 tells {form} am h = record { form = form; among = am; told = h }
@@ -71,12 +74,15 @@ unmarked {n} {ps} h = record {
       h.at n;
 }
 
+-- A sentence without marks is a marked one without deeds.
 pub tells_of : {s : Sort} {n : ℕ} {rule : Rule s} {ps : List Piece} {x : Val s} → Reads rule ps x → Tells n rule ps [] x
 tells_of r = tells r.among (unmarked r.sent)
 
+-- Nothing is a marked sentence of a value that is given.
 pub m_given : {s : Sort} {n : ℕ} {x : Val s} → Marked n (give x) [] [] x
 m_given = record { items = []; spelled = refl; does = refl; says = is_given }
 
+-- A piece that passes the test comes first.
 pub m_takes : {s : Sort} {n : ℕ} {test : Word → Bool} {next : Word → Prod ruby s} {p : Piece} {ps : List Piece}
     {ds : List Deed} {x : Val s} →
     test (word_at n p) ≡ true → Marked (behind_piece n p) (next (word_at n p)) ps ds x →
@@ -88,6 +94,7 @@ m_takes {n} {p} e h = record {
   says = is_word e h.says;
 }
 
+-- A mark's deed comes first.
 pub m_mark : {s : Sort} {n : ℕ} {m : Mark} {p : Prod ruby s} {ps : List Piece} {ds : List Deed} {x : Val s} →
     Marked n p ps ds x → Marked n (mark m p) ps (deed_of m ∷ ds) x
 m_mark {m} h = record {
@@ -97,6 +104,7 @@ m_mark {m} h = record {
   says = is_marked h.says;
 }
 
+-- A rule's sentence comes before what follows it, and so do its deeds.
 pub m_then : {s v : Sort} {n : ℕ} {rule : Rule v} {next : Val v → Prod ruby s} {us vs : List Piece}
     {ds es : List Deed} {y : Val v} {x : Val s} →
     Tells n rule us ds y → Marked (end_of n us) (next y) vs es x → Marked n (call rule next) (us ++ vs) (ds ++ es) x
@@ -112,6 +120,7 @@ pub m_over : {s : Sort} {n : ℕ} {p : Prod ruby s} {ps qs : List Piece} {ds : L
     Marked n p qs ds x → Marked n p ps ds x
 m_over {n} {p} {ds} {x} e h = subst (λ t. Marked n p t ds x) (sym e) h
 
+-- Equal pieces tell alike.
 pub tells_over : {s : Sort} {n : ℕ} {rule : Rule s} {ps qs : List Piece} {ds : List Deed} {x : Val s} → ps ≡ qs →
     Tells n rule qs ds x → Tells n rule ps ds x
 tells_over {n} {rule} {ds} {x} e h = subst (λ t. Tells n rule t ds x) (sym e) h
@@ -120,6 +129,7 @@ m_does : {s : Sort} {n : ℕ} {p : Prod ruby s} {ps : List Piece} {ds es : List 
     Marked n p ps ds x → Marked n p ps es x
 m_does {n} {p} {ps} {x} e h = subst (λ t. Marked n p ps t x) e h
 
+-- Equal values tell alike.
 pub m_valued : {s : Sort} {n : ℕ} {p : Prod ruby s} {ps : List Piece} {ds : List Deed} {x y : Val s} → x ≡ y →
     Marked n p ps ds x → Marked n p ps ds y
 m_valued {n} {p} {ps} {ds} e h = subst (λ t. Marked n p ps ds t) e h
@@ -136,6 +146,7 @@ pub m_ends : {s v : Sort} {n : ℕ} {rule : Rule v} {next : Val v → Prod ruby 
     Tells n rule us ds y → Marked (end_of n us) (next y) [] [] x → Marked n (call rule next) us ds x
 m_ends {us} r h = m_over (sym (append-nil us)) (m_then_plain r h)
 
+-- A rule's marked sentence is one of the production that calls it last.
 pub m_says : {s : Sort} {n : ℕ} {rule : Rule s} {ps : List Piece} {ds : List Deed} {x : Val s} →
     Tells n rule ps ds x → Marked n (only rule) ps ds x
 m_says r = m_ends r m_given
@@ -149,6 +160,7 @@ places_aside : (ms : List Mark) (m : Mark) → clashes_any ms m ≡ clashes_any 
 places_aside [] m = refl
 places_aside (x ∷ xs) m = ap (λ b. clash m x || b) (places_aside xs m)
 
+-- Deeds that are apart make no mark clash.
 pub clear_of : (ms : List Mark) (ts : List (Item ruby)) → Apart (map without_place ms) (deeds_in ts) →
     Clear ruby_grammar ms ts
 clear_of ms [] h = tt

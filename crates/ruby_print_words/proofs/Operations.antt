@@ -30,6 +30,7 @@ not_read names zero x r gap = absurd r
 not_read names (suc l) x r gap = whole units (scope (suc l) names)
     (of_unary (scope (suc l) names) (reads first (takes (λ n. refl) (λ n. refl) (ends (unary_operand r []) given))))
 
+-- A printed `!` is read as it is.
 pub not_ready : {names : List Name} (x : Expr) → Eventually (Ready names x) → Eventually (Ready names (expr.Not x))
 not_ready {names} x h = enclosed_ready (λ g. mark g op.Not (codes "!") ∷ expression x [] true)
     (pieces_of (expr.Not x) (expr.outs-Not x)) (so (λ l r. not_read names l x r) (deeper h))
@@ -42,6 +43,7 @@ minus_read names (suc l) x r gap = whole units (scope (suc l) names)
     (of_unary (scope (suc l) names)
     (reads (later first) (takes (λ n. refl) (λ n. refl) (ends (unary_operand r space) given))))
 
+-- A printed unary minus is read as it is.
 pub minus_ready : {names : List Name} (x : Expr) → Eventually (Ready names x) →
     Eventually (Ready names (expr.Call (Some x) (codes "-@") []))
 minus_ready {names} x h =
@@ -52,7 +54,7 @@ minus_ready {names} x h =
 -- ---- two operands
 
 -- the pieces of the second operand may have nothing more behind them
-pub operated : {names : List Name} (k : Level) (o : Op) (text : List ℕ) (x y z : Expr) (vs : List Piece) →
+operated : {names : List Name} (k : Level) (o : Op) (text : List ℕ) (x y z : Expr) (vs : List Piece) →
     vs ≡ expression y space true →
     is_operator k (word_at 0 (mark space o text)) ≡ true → operation (word_at 0 (mark space o text)) x y ≡ z →
     ((gap : List ℕ) (inside : Bool) →
@@ -64,11 +66,13 @@ operated {names} k o text x y z vs same is value e a b =
     (whole k (scope l names)
     (operates k (scope l names) o text is (operand p.0 gap) (over_rule same (operand p.1 space))))) (both a b))
 
+-- A printed `&&` is read as it is.
 pub and_ready : {names : List Name} (x y : Expr) → Eventually (Ready names x) → Eventually (Ready names y) →
     Eventually (Ready names (expr.And x y))
 and_ready x y = operated conjunctions op.AndAlso (codes "&&") x y (expr.And x y) _ refl refl refl
     (pieces_of (expr.And x y) (expr.outs-And x y))
 
+-- A printed `||` is read as it is.
 pub or_ready : {names : List Name} (x y : Expr) → Eventually (Ready names x) → Eventually (Ready names y) →
     Eventually (Ready names (expr.Or x y))
 or_ready x y = operated disjunctions op.OrElse (codes "||") x y (expr.Or x y) _ refl refl refl
@@ -108,6 +112,7 @@ call_pieces : (x : Expr) (n : List ℕ) (y : Expr) (gap : List ℕ) (inside : Bo
     expression (expr.Call (Some x) n (y ∷ [])) gap inside ≡ call_on (expression x) n (expression y ∷ []) gap inside
 call_pieces x n y gap inside = pieces_of (expr.Call (Some x) n (y ∷ [])) (expr.outs-Call (Some x) n (y ∷ [])) gap inside
 
+-- A printed operator is read as it is.
 pub operation_ready : {names : List Name} (x y : Expr) (n : List ℕ) → is_operation n ≡ true →
     Eventually (Ready names x) → Eventually (Ready names y) → Eventually (Ready names (expr.Call (Some x) n (y ∷ [])))
 operation_ready {names} x y n e = by_operation (Operates names x y)
@@ -136,6 +141,7 @@ choice_read names l x y z a b c gap =
     (says (reads first (takes (λ n. refl) (λ n. refl)
     (then_ (inner b space) (takes (λ n. refl) (λ n. refl) (ends (inner c space) given)))))))
 
+-- A printed choice is read as it is.
 pub choice_ready : {names : List Name} (x y z : Expr) → Eventually (Ready names x) → Eventually (Ready names y) →
     Eventually (Ready names z) → Eventually (Ready names (expr.Choose x y z))
 choice_ready {names} x y z a b c =

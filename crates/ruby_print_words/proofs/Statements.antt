@@ -11,6 +11,7 @@ use Rattle.ruby_print_words.proofs.Branches.{returns_value_read, raises_read, Wh
 use Rattle.ruby_print_words.proofs.Branches.{Several, no_statements, statements_more, Arms, last_arm_tail}
 use Rattle.ruby_print_words.proofs.Branches.{arm_more_tail, Rest, no_else, else_read, block_read}
 
+-- What is shown of a formed statement's pieces, by its form.
 abbrev pub Told : Bool → (f : Form) → List Name → Held f → List Name → ℕ → Type 0
 Told sets simple names s after = Simple sets names s after
 Told sets whole names s after = Whole sets names s after
@@ -25,6 +26,7 @@ rest_of {sets} {names} f.no_more h = always (λ l. record { read = λ as' ss ind
 rest_of {sets} {names} {ss} {after} (f.one_more {s} {ss = other} d e) h =
     so (λ l r. record { read = λ as' us indent. else_read sets names after as' us s other indent l r }) h
 
+-- The pieces of each formed statement are read as it is.
 pub told : {sets : Bool} {f : Form} {names : List Name} {x : Held f} {after : List Name} →
     FormedStmt sets f names x after → Eventually (Told sets f names x after)
 told {sets} {names} (f.evaluates {x} h) = so (λ l r. evaluates_read sets names x l r) (shown h)

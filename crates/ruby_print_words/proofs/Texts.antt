@@ -33,6 +33,7 @@ one_byte b bs =
     (λ no. pick b bs (b == 27) _ _ (λ h. is_byte b 27 bs h)
     (λ no. plain b bs other)))))))
 
+-- A printed piece of a text is read as the same bytes.
 pub text_back : (text : List ℕ) → double_text (flat_map print.escaped text) ≡ text
 text_back [] = refl
 text_back (b ∷ bs) = one_byte b (flat_map print.escaped bs) ∙ ap (λ t. b ∷ t) (text_back bs)

@@ -23,6 +23,7 @@ pub struct Shown {
 }
 
 impl Shown {
+    /// The empty text.
     pub fn new(alloc: Global) -> Shown {
         Shown {
             alloc,
@@ -30,8 +31,9 @@ impl Shown {
         }
     }
 
-    pub fn as_bytes(&self) -> &[u8] {
-        self.text.as_slice()
+    /// The text's bytes.
+    pub fn into_bytes(self) -> Vec<u8> {
+        self.text
     }
 
     fn put(&mut self, part: &[u8]) -> Result<(), AllocError> {

@@ -1,7 +1,7 @@
 use Rattle.std.proofs.Common.{◌*◌, ◌+◌}
 use Rattle.ruby_types.specs.declared.tree.Stmt.{size-Stmt}
 use Rattle.ruby_types.specs.declared.tree.Stmt.TheViews.{weight-Stmt-If-0, weight-Stmt-If-1}
-use Rattle.ruby_parse_tests.proofs.shown.+statement.Given as goal
+use Rattle.ruby_parse_cases.proofs.shown.+statement.Given as goal
 
 abbrev pub decreases-show_statement : goal.decreases-show_statement
 decreases-show_statement l = 8 * size-Stmt l.statement.now
