@@ -53,7 +53,7 @@ another_from_count test rows value seat row own all mine view within read own_is
     let below : seat < length rows = subst (λ xs. seat < length xs) (sym view) within in
     let part_is : own ≡ count_one test row = own_is ∙ (byte-cond mine ∙ ap (λ b. cond b 1 0) mine_is) in
     let counted : nat_lt own all ≡ nat_lt (count_one test row) (count_by test rows) = λ i.
-        nat_lt (part_is i) (all_is i) in
+    nat_lt (part_is i) (all_is i) in
     let there : nat_lt (count_one test row) (count_by test rows) ≡ nat_lt (count_one test (get_or rows seat row))
     (count_by test rows) = ap (λ r. nat_lt (count_one test r) (count_by test rows)) read in
     counted ∙ (there ∙ (sym (another_count test rows seat row below) ∙ ap (λ xs. another test xs seat) view))

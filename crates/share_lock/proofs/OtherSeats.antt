@@ -46,12 +46,12 @@ another_count test (row ∷ rows) (suc seat) d below = step (another_count test 
     step : another test rows seat ≡ nat_lt (count_one test (get_or rows seat d)) (count_by test rows) → (b : Bool) →
         test row ≡ b
         → (test row || another test rows seat) ≡ nat_lt (count_one test (get_or rows seat d))
-            (count_by test (row ∷ rows))
+        (count_by test (row ∷ rows))
     step ih true is =
         let more : count_by test (row ∷ rows) ≡ 1 + count_by test rows = count-cons test row rows
         ∙ ap (λ b. cond b 1 0 + count_by test rows) is in
         let within : count_one test (get_or rows seat d) ≤ count_by test rows =
-            get_or-le-sum_by (count_one test) rows seat d
+        get_or-le-sum_by (count_one test) rows seat d
         (omega arith) in
         ap (λ b. b || another test rows seat) is
         ∙ sym (lt-ltb (count_one test (get_or rows seat d)) (count_by test (row ∷ rows)) (omega arith))

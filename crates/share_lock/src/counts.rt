@@ -29,7 +29,7 @@ impl Counts {
         ensures sharing { self.new.sharing ≡ self.old.sharing + count_one holds_shares row.now }
         ensures lacking { (bit : ℕ) → bit < 8
             → slice_index self.new.lacking bit ≡ slice_index self.old.lacking bit + count_one
-                (waits_without bit) row.now }
+            (waits_without bit) row.now }
     {
         if row.shares > 0 {
             self.sharing += 1;
@@ -47,7 +47,7 @@ impl Counts {
         ensures sharing { self.new.sharing + count_one holds_shares row.now ≡ self.old.sharing }
         ensures lacking { (bit : ℕ) → bit < 8
             → slice_index self.new.lacking bit + count_one (waits_without bit) row.now
-                ≡ slice_index self.old.lacking bit }
+            ≡ slice_index self.old.lacking bit }
     {
         if row.shares > 0 {
             self.sharing -= 1;

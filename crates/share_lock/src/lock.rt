@@ -219,7 +219,11 @@ impl LockState {
         let row = self.rows.at(seat as usize);
         Holds {
             shares: row.shares,
-            depth: if self.is_exclusive(seat) { self.depth } else { 0 },
+            depth: if self.is_exclusive(seat) {
+                self.depth
+            } else {
+                0
+            },
             phase: row.phase,
         }
     }

@@ -1,7 +1,7 @@
-use Rattle.std.proofs.Common.{◌≡◌, ℕ, ◌<◌, ◌≤◌, All, length, slice_index_or}
+use Rattle.std.proofs.Common.{◌≡◌, All}
 use Rattle.turn_lock.specs.Entries.{Begins}
 use Rattle.turn_lock_tests.specs.Ready.{IsReady}
-use Rattle.turn_lock_tests.proofs.Joins.{IsFrontOf, AreJoined}
+use Rattle.turn_lock_tests.proofs.Joins.{IsGathered}
 use Rattle.turn_lock_tests.proofs.turns.gather.Given as goal
 
 abbrev pub invariant-loop-other : goal.invariant-loop-other
@@ -11,8 +11,7 @@ invariant-loop-other l =
       same : l.first.number ≡ l.initial.first.number;
       others : All (IsReady l.lock) l.others.items;
       mine : Begins l.initial.first.seen l.first.seen;
-      left : IsFrontOf l.initial.others.items l.others.items;
-      joined : AreJoined l.initial.others.items (length l.others.items) l.first.seen;
+      gathered : IsGathered l.initial.others.items l.others.items l.first.seen;
     }
 
 abbrev pub decreases-loop-other : goal.decreases-loop-other
