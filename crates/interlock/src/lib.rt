@@ -1,4 +1,15 @@
 //! The load interlock: which of running, loading and unloading may stand side by side.
+//!
+//! It fixes the purposes and lists of a `share_lock`, as ActiveSupport's Interlock does. In the clauses below,
+//! purpose 0 is
+//! a load and purpose 1 an unload; list 1 is {0}, which admits loads, and list 3 is {0, 1}, which admits both.
+//!
+//! | Call | Is the lock's |
+//! |---|---|
+//! | `start_running`, `done_running` | `start_sharing`, `stop_sharing` |
+//! | `start_loading`, `done_loading` | `start_exclusive` for 0 with {0}, `stop_exclusive` with {0} |
+//! | `start_unloading`, `done_unloading` | `start_exclusive` for 1 with {0, 1}, `stop_exclusive` with {0, 1} |
+//! | `permit_begin`, `permit_end` | `yield_shares` with {0}, `retake` |
 #![tactic(auto)]
 
 ghost use Rattle.std.specs.Prelude.{◌≡◌, ◌<◌, ◌≤◌, ◌+◌, ◌-◌, ◌⊎◌, length, true, false};
@@ -50,11 +61,11 @@ pub trait Interlock {
         ensures again { owns (lock self.old).exclusive seat ≡ true
             → (result ≡ Start.Taken) × (lock self.new ≡ record (lock self.old) { depth = (lock self.old).depth + 1 }) }
         ensures taken { owns (lock self.old).exclusive seat ≡ false
-            → busy_exclusive (lock self.old).rows (lock self.old).exclusive seat LOAD ≡ false
+            → busy_exclusive (lock self.old).rows (lock self.old).exclusive seat 0 ≡ false
             → (result ≡ Start.Taken) × (lock self.new ≡ taken_by seat (lock self.old)) }
         ensures seeking { owns (lock self.old).exclusive seat ≡ false
-            → busy_exclusive (lock self.old).rows (lock self.old).exclusive seat LOAD ≡ true
-            → (result ≡ Start.Seeking) × (lock self.new ≡ changed_at (lock self.old) seat (seeking LOAD LOADS)) };
+            → busy_exclusive (lock self.old).rows (lock self.old).exclusive seat 0 ≡ true
+            → (result ≡ Start.Seeking) × (lock self.new ≡ changed_at (lock self.old) seat (seeking 0 1)) };
 
     /// Ends a load. Where other loads can go first, it waits for them.
     fn done_loading(&mut self, seat: u32) -> Stop
@@ -63,9 +74,9 @@ pub trait Interlock {
         requires room { length (row_of (lock self.old) seat).yields < 8 }
         ensures deeper { 1 < (lock self.old).depth
             → (result ≡ Stop.Deeper) × (lock self.new ≡ record (lock self.old) { depth = (lock self.old).depth - 1 }) }
-        ensures waiting { (lock self.old).depth ≤ 1 → eligible LOADS (lock self.old).rows ≡ true
-            → (result ≡ Stop.Waiting) × (lock self.new ≡ released (changed_at (lock self.old) seat (releasing LOADS))) }
-        ensures free { (lock self.old).depth ≤ 1 → eligible LOADS (lock self.old).rows ≡ false
+        ensures waiting { (lock self.old).depth ≤ 1 → eligible 1 (lock self.old).rows ≡ true
+            → (result ≡ Stop.Waiting) × (lock self.new ≡ released (changed_at (lock self.old) seat (releasing 1))) }
+        ensures free { (lock self.old).depth ≤ 1 → eligible 1 (lock self.old).rows ≡ false
             → (result ≡ Stop.Free) × (lock self.new ≡ released (lock self.old)) };
 
     /// Unloads alone, or seeks to, admitting loads and other unloads.
@@ -77,12 +88,12 @@ pub trait Interlock {
         ensures again { owns (lock self.old).exclusive seat ≡ true
             → (result ≡ Start.Taken) × (lock self.new ≡ record (lock self.old) { depth = (lock self.old).depth + 1 }) }
         ensures taken { owns (lock self.old).exclusive seat ≡ false
-            → busy_exclusive (lock self.old).rows (lock self.old).exclusive seat UNLOAD ≡ false
+            → busy_exclusive (lock self.old).rows (lock self.old).exclusive seat 1 ≡ false
             → (result ≡ Start.Taken) × (lock self.new ≡ taken_by seat (lock self.old)) }
         ensures seeking { owns (lock self.old).exclusive seat ≡ false
-            → busy_exclusive (lock self.old).rows (lock self.old).exclusive seat UNLOAD ≡ true
+            → busy_exclusive (lock self.old).rows (lock self.old).exclusive seat 1 ≡ true
             → (result ≡ Start.Seeking)
-            × (lock self.new ≡ changed_at (lock self.old) seat (seeking UNLOAD LOADS_AND_UNLOADS)) };
+            × (lock self.new ≡ changed_at (lock self.old) seat (seeking 1 3)) };
 
     /// Ends an unload. Where loads or other unloads can go first, it waits for them.
     fn done_unloading(&mut self, seat: u32) -> Stop
@@ -91,10 +102,10 @@ pub trait Interlock {
         requires room { length (row_of (lock self.old) seat).yields < 8 }
         ensures deeper { 1 < (lock self.old).depth
             → (result ≡ Stop.Deeper) × (lock self.new ≡ record (lock self.old) { depth = (lock self.old).depth - 1 }) }
-        ensures waiting { (lock self.old).depth ≤ 1 → eligible LOADS_AND_UNLOADS (lock self.old).rows ≡ true
+        ensures waiting { (lock self.old).depth ≤ 1 → eligible 3 (lock self.old).rows ≡ true
             → (result ≡ Stop.Waiting)
-            × (lock self.new ≡ released (changed_at (lock self.old) seat (releasing LOADS_AND_UNLOADS))) }
-        ensures free { (lock self.old).depth ≤ 1 → eligible LOADS_AND_UNLOADS (lock self.old).rows ≡ false
+            × (lock self.new ≡ released (changed_at (lock self.old) seat (releasing 3))) }
+        ensures free { (lock self.old).depth ≤ 1 → eligible 3 (lock self.old).rows ≡ false
             → (result ≡ Stop.Free) × (lock self.new ≡ released (lock self.old)) };
 
     /// Yields its runs to loads.
@@ -103,7 +114,7 @@ pub trait Interlock {
         requires calm { (row_of (lock self.old) seat).phase ≡ Phase.Calm }
         requires not_exclusive { owns (lock self.old).exclusive seat ≡ false }
         requires room { length (row_of (lock self.old) seat).yields < 8 }
-        ensures { lock self.new ≡ changed_at (lock self.old) seat (yielded LOADS) };
+        ensures { lock self.new ≡ changed_at (lock self.old) seat (yielded 1) };
 
     /// Takes its runs back.
     fn permit_end(&mut self, seat: u32) -> Resume

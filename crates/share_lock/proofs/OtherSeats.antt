@@ -8,11 +8,11 @@ use Rattle.std.proofs.lemmas.List.Sums.{sum_by-cons, get_or-le-sum_by}
 use Rattle.std.specs.List.{count_by, list_any}
 use Rattle.share_lock.specs.declared.seat.Row.{Row}
 use Rattle.share_lock.specs.Rows.{another}
-use Rattle.share_lock.specs.Counted.{part}
+use Rattle.share_lock.specs.Counted.{count_one}
 
 count-cons : (test : Row → Bool) (row : Row) (rows : List Row) →
-    count_by test (row ∷ rows) ≡ part test row + count_by test rows
-count-cons test row rows = sum_by-cons (part test) row rows
+    count_by test (row ∷ rows) ≡ count_one test row + count_by test rows
+count-cons test row rows = sum_by-cons (count_one test) row rows
 
 list_any_count : (test : Row → Bool) (rows : List Row) → list_any test rows ≡ nat_lt 0 (count_by test rows)
 list_any_count test [] = refl
@@ -35,29 +35,31 @@ lt_shift own others = grind (arith, nat_tests)
 
 -- another seat passes exactly where more pass than the seat itself
 pub another_count : (test : Row → Bool) (rows : List Row) (seat : ℕ) (d : Row) → seat < length rows →
-    another test rows seat ≡ nat_lt (part test (get_or rows seat d)) (count_by test rows)
+    another test rows seat ≡ nat_lt (count_one test (get_or rows seat d)) (count_by test rows)
 another_count test [] seat d below = absurd (omega arith)
 another_count test (row ∷ rows) zero d below =
     list_any_count test rows
-    ∙ (lt_shift (part test row) (count_by test rows)
-    ∙ ap (λ n. nat_lt (part test row) n) (sym (count-cons test row rows)))
+    ∙ (lt_shift (count_one test row) (count_by test rows)
+    ∙ ap (λ n. nat_lt (count_one test row) n) (sym (count-cons test row rows)))
 another_count test (row ∷ rows) (suc seat) d below = step (another_count test rows seat d (omega arith)) (test row) refl
   where
-    step : another test rows seat ≡ nat_lt (part test (get_or rows seat d)) (count_by test rows) → (b : Bool) →
+    step : another test rows seat ≡ nat_lt (count_one test (get_or rows seat d)) (count_by test rows) → (b : Bool) →
         test row ≡ b
-        → (test row || another test rows seat) ≡ nat_lt (part test (get_or rows seat d)) (count_by test (row ∷ rows))
+        → (test row || another test rows seat) ≡ nat_lt (count_one test (get_or rows seat d))
+        (count_by test (row ∷ rows))
     step ih true is =
         let more : count_by test (row ∷ rows) ≡ 1 + count_by test rows = count-cons test row rows
         ∙ ap (λ b. cond b 1 0 + count_by test rows) is in
-        let within : part test (get_or rows seat d) ≤ count_by test rows = get_or-le-sum_by (part test) rows seat d
+        let within : count_one test (get_or rows seat d) ≤ count_by test rows =
+        get_or-le-sum_by (count_one test) rows seat d
         (omega arith) in
         ap (λ b. b || another test rows seat) is
-        ∙ sym (lt-ltb (part test (get_or rows seat d)) (count_by test (row ∷ rows)) (omega arith))
+        ∙ sym (lt-ltb (count_one test (get_or rows seat d)) (count_by test (row ∷ rows)) (omega arith))
     step ih false is =
         let same : count_by test (row ∷ rows) ≡ 0 + count_by test rows = count-cons test row rows
         ∙ ap (λ b. cond b 1 0 + count_by test rows) is in
         let equal : count_by test rows ≡ count_by test (row ∷ rows) = omega arith in
-        ap (λ b. b || another test rows seat) is ∙ (ih ∙ ap (λ n. nat_lt (part test (get_or rows seat d)) n) equal)
+        ap (λ b. b || another test rows seat) is ∙ (ih ∙ ap (λ n. nat_lt (count_one test (get_or rows seat d)) n) equal)
 
 -- a change of the seat's own row
 pub another-set_same : (test : Row → Bool) (rows : List Row) (seat : ℕ) (row : Row) →

@@ -11,7 +11,8 @@ use Rattle.share_lock.specs.declared.seat.Phase.{Phase}
 use Rattle.share_lock.specs.declared.seat.Phase.TheVariants.{Calm, Seeking, Releasing}
 use Rattle.share_lock.specs.declared.seat.Row.{Row}
 use Rattle.share_lock.specs.declared.seat.Wait.{Wait}
-use Rattle.share_lock.specs.Rows.{rest, row_at, holds_shares, waits_without, another, another_exclusive, busy_share}
+use Rattle.share_lock.specs.Rows.{resting_row, row_at, holds_shares, waits_without, another, another_exclusive}
+use Rattle.share_lock.specs.Rows.{busy_share}
 use Rattle.share_lock.specs.Rows.{busy_exclusive, yielding}
 use Rattle.share_lock.specs.Lock.{Lock, owns, refuses_share, with_share, without_share, wait_for, seeking, yielded}
 use Rattle.share_lock.specs.Lock.{restored, FitsPhase, IsPlausible, IsAlone, FitsOwner, IsSound}
@@ -29,7 +30,7 @@ fits-set (Some owner) rows depth seat row below (inl own) fits = record {
   seated = let same : length (set rows seat row) ≡ length rows = length-set rows seat row in let before : owner <
       length rows = fits.seated in omega arith;
   calm = subst (λ k. (row_at (set rows seat row) k).phase ≡ Calm) (sym own.0)
-      (ap (λ (r : Row). r.phase) (get_or-set_same rows seat row rest below) ∙ own.1);
+      (ap (λ (r : Row). r.phase) (get_or-set_same rows seat row resting_row below) ∙ own.1);
   deep = fits.deep;
   alone = subst (λ k. another holds_shares (set rows seat row) k ≡ false) (sym own.0)
       (another-set_same holds_shares rows seat row ∙ subst (λ k. another holds_shares rows k ≡ false) own.0 fits.alone);
@@ -37,7 +38,7 @@ fits-set (Some owner) rows depth seat row below (inl own) fits = record {
 fits-set (Some owner) rows depth seat row below (inr other) fits = record {
   seated = let same : length (set rows seat row) ≡ length rows = length-set rows seat row in let before : owner <
       length rows = fits.seated in omega arith;
-  calm = ap (λ (r : Row). r.phase) (get_or-set_other rows seat owner row rest other.0) ∙ fits.calm;
+  calm = ap (λ (r : Row). r.phase) (get_or-set_other rows seat owner row resting_row other.0) ∙ fits.calm;
   deep = fits.deep;
   alone = another-set_false holds_shares rows owner seat row other.1 fits.alone;
 }
@@ -56,14 +57,14 @@ calm-plausible : (row : Row) → row.phase ≡ Calm → IsPlausible row
 calm-plausible row calm = subst (λ p. FitsPhase p row) (sym calm) tt
 
 plausible_at : (lock : Lock) → IsSound lock → (seat : ℕ) → seat < length lock.rows → IsPlausible (row_at lock.rows seat)
-plausible_at lock sound seat below = sound.rows seat rest below
+plausible_at lock sound seat below = sound.rows seat resting_row below
 
 -- where another seat is exclusive, a seat has no shares
 others_have_none : (rows : List Row) (owner depth seat : ℕ) → IsAlone rows owner depth → owner ≢ seat →
     seat < length rows → holds_shares (row_at rows seat) ≡ false
 others_have_none rows owner depth seat fits other below =
     another_false_at holds_shares rows owner fits.alone seat (row_at rows seat) (λ same. other (sym same))
-    (slice_get-get_or rows seat rest below)
+    (slice_get-get_or rows seat resting_row below)
 
 -- START SHARING
 
@@ -87,6 +88,7 @@ share_suits (Some owner) rows depth seat fits below calm allowed =
           (others_have_none rows owner depth seat fits other below) (ne_eqb owner seat other)) ∙ allowed))
     ]
 
+-- a seat takes one share more
 pub IsSound-share : (lock value : Lock) (seat : ℕ) (rows : List Row) → lock ≡ value → IsSound lock →
     seat < length value.rows → (row_at value.rows seat).phase ≡ Calm
     → refuses_share value.rows value.exclusive seat ≡ false →
@@ -119,6 +121,7 @@ unshare_suits (Some owner) rows depth seat fits below calm some =
           ∙ others_have_none rows owner depth seat fits other below))
     ]
 
+-- a seat gives one share back
 pub IsSound-unshare : (lock value : Lock) (seat : ℕ) (rows : List Row) → lock ≡ value → IsSound lock →
     seat < length value.rows → 0 < (row_at value.rows seat).shares
     → rows ≡ slice_set lock.rows seat (without_share (row_at lock.rows seat)) → IsSound (record lock { rows = rows })
@@ -162,6 +165,7 @@ IsSound-yield lock value seat row rows view sound within apart none plausible ch
     subst (λ rs. IsSound (record lock { rows = rs })) (sym changed)
     (IsSound-set lock seat row sound below plausible (idle_suits lock.exclusive seat row apart_here none))
 
+-- a seat yields and seeks to be exclusive
 pub IsSound-seek : (lock value : Lock) (seat purpose list : ℕ) (rows : List Row) → lock ≡ value → IsSound lock →
     seat < length value.rows → owns value.exclusive seat ≡ false
     → purpose ≤ 6 → rows ≡ slice_set lock.rows seat (seeking purpose list (row_at lock.rows seat)) →
@@ -173,6 +177,7 @@ IsSound-seek lock value seat purpose list rows view sound within apart few chang
     (yielding-shares row wait true)
     (few, yielding-shares row wait true, yielding-yields row wait true) changed
 
+-- a seat yields and stays calm
 pub IsSound-yielded : (lock value : Lock) (seat list : ℕ) (rows : List Row) → lock ≡ value → IsSound lock →
     seat < length value.rows → owns value.exclusive seat ≡ false
     → rows ≡ slice_set lock.rows seat (yielded list (row_at lock.rows seat)) → IsSound (record lock { rows = rows })
@@ -189,6 +194,7 @@ restored_suits : (exclusive : Option ℕ) (seat : ℕ) (row : Row) → another_e
 restored_suits None seat row free calm = tt
 restored_suits (Some owner) seat row free calm = inl (eqb-true owner seat (not-false (owner == seat) free), calm)
 
+-- a seat takes back what it put aside last
 pub IsSound-restore : (lock value : Lock) (seat : ℕ) (rows : List Row) → lock ≡ value → IsSound lock →
     seat < length value.rows → another_exclusive value.exclusive seat ≡ false
     → rows ≡ slice_set lock.rows seat (restored (row_at lock.rows seat)) → IsSound (record lock { rows = rows })
@@ -217,7 +223,7 @@ IsSound-take lock value seat purpose rows view sound within free changed =
       rows = All-set IsPlausible lock.rows seat row tt sound.rows;
       owner = record {
         seated = omega arith;
-        calm = ap (λ (r : Row). r.phase) (get_or-set_same lock.rows seat row rest below);
+        calm = ap (λ (r : Row). r.phase) (get_or-set_same lock.rows seat row resting_row below);
         deep = (omega arith, omega arith);
         alone = another-set_same holds_shares lock.rows seat row
             ∙ (or_parts (busy_share lock.rows lock.exclusive seat purpose) (another holds_shares lock.rows seat)
@@ -232,6 +238,7 @@ alone_of : (exclusive : Option ℕ) (rows : List Row) (depth owner : ℕ) → Fi
 alone_of None rows depth owner fits is = absurd (none-some owner is)
 alone_of (Some holder) rows depth owner fits is = subst (λ k. IsAlone rows k depth) (same_Some holder owner is) fits
 
+-- beside an exclusive seat no other seat has a share
 pub exclusion : (lock : Lock) → IsSound lock → (owner seat : ℕ) (row : Row) → lock.exclusive ≡ Some owner →
     seat ≢ owner → slice_get lock.rows seat ≡ Some row → row.shares ≡ 0
 exclusion lock sound owner seat row is other there =

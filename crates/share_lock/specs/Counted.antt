@@ -5,8 +5,8 @@ use Rattle.share_lock.specs.declared.seat.Row.{Row}
 use Rattle.share_lock.specs.Rows.{holds_shares, waits_without}
 
 -- what one row adds to the count of a test
-abbrev pub part : (Row → Bool) → Row → ℕ
-part test row = cond (test row) 1 0
+abbrev pub count_one : (Row → Bool) → Row → ℕ
+count_one test row = cond (test row) 1 0
 
 -- how many rows hold shares, and how many wait without each bit
 pub record IsCountOf (rows : List Row) (counts : Counts) : Type 0 where

@@ -5,7 +5,7 @@ use Rattle.share_lock.specs.declared.seat.Wait.{Wait}
 use Rattle.share_lock.specs.declared.seat.Phase.{Phase}
 use Rattle.share_lock.specs.declared.seat.Phase.TheVariants.{Calm, Seeking, Releasing}
 use Rattle.share_lock.specs.declared.seat.Row.{Row}
-use Rattle.share_lock.specs.Rows.{rest, row_at, holds_shares, another, another_exclusive, busy_share, eligible}
+use Rattle.share_lock.specs.Rows.{resting_row, row_at, holds_shares, another, another_exclusive, busy_share, eligible}
 use Rattle.share_lock.specs.Rows.{yielding, restoring, in_phase}
 
 -- the rows of all seats, the exclusive seat, and how many times over it is exclusive, which is 0 where none is
@@ -16,13 +16,14 @@ pub record Lock : Type 0 where
 
 -- a lock whose seats do nothing
 abbrev pub lock_at_rest : ℕ → Lock
-lock_at_rest seats = record { rows = replicate seats rest; exclusive = None; depth = 0 }
+lock_at_rest seats = record { rows = replicate seats resting_row; exclusive = None; depth = 0 }
 
 -- the seat is the exclusive one
 abbrev pub owns : Option ℕ → ℕ → Bool
 owns None seat = false
 owns (Some owner) seat = owner == seat
 
+-- the row of a seat
 abbrev pub row_of : Lock → ℕ → Row
 row_of lock seat = row_at lock.rows seat
 
@@ -52,12 +53,15 @@ holds_back rows exclusive list = is_some exclusive || eligible list rows
 
 -- THE SEAT'S OWN ROW, what a call makes of it
 
+-- one share more
 abbrev pub with_share : Row → Row
 with_share row = record row { shares = row.shares + 1 }
 
+-- one share less
 abbrev pub without_share : Row → Row
 without_share row = record row { shares = row.shares - 1 }
 
+-- a wait for a purpose, which admits what is in the list
 abbrev pub wait_for : Option ℕ → ℕ → Wait
 wait_for purpose list = record { purpose = purpose; list = list }
 
@@ -85,6 +89,7 @@ FitsPhase Calm row = Unit {0}
 FitsPhase (Seeking purpose) row = (purpose ≤ 6) × (row.shares ≡ 0) × (0 < length row.yields)
 FitsPhase (Releasing list) row = (row.shares ≡ 0) × (0 < length row.yields)
 
+-- the row is one that its phase allows
 abbrev pub IsPlausible : Row → Type 0
 IsPlausible row = FitsPhase row.phase row
 
@@ -95,10 +100,12 @@ pub record IsAlone (rows : List Row) (owner depth : ℕ) : Type 0 where
   pub deep : (0 < depth) × (depth ≤ 1000)
   pub alone : another holds_shares rows owner ≡ false
 
+-- where no seat is exclusive the depth is 0, and an exclusive one is alone
 abbrev pub FitsOwner : Option ℕ → List Row → ℕ → Type 0
 FitsOwner None rows depth = depth ≡ 0
 FitsOwner (Some owner) rows depth = IsAlone rows owner depth
 
+-- 1 to 64 rows, each one that its phase allows, and an exclusive seat that is alone
 pub record IsSound (lock : Lock) : Type 0 where
   pub seats : (0 < length lock.rows) × (length lock.rows ≤ 64)
   pub rows : All IsPlausible lock.rows

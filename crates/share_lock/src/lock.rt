@@ -1,7 +1,7 @@
 ghost use Rattle.std.specs.Prelude.{◌≡◌, ◌≢◌, ◌<◌, ◌≤◌, ◌+◌, ◌-◌, ◌⊎◌, ℕ, length, true, false, slice_get, IfOk, Bool};
 ghost use Rattle.std.specs.Prelude.{if◌then◌else◌};
 ghost use Rattle.share_lock.specs.declared.seat.Row.{Row};
-ghost use Rattle.share_lock.specs.Rows.{has, another, another_exclusive, busy_share, busy_exclusive, eligible};
+ghost use Rattle.share_lock.specs.Rows.{has_bit, another, another_exclusive, busy_share, busy_exclusive, eligible};
 ghost use Rattle.share_lock.specs.Rows.{is_nothing, last_saved};
 ghost use Rattle.share_lock.specs.Lock.{IsSound, lock_at_rest, owns, row_of, changed_at, taken_by, released};
 ghost use Rattle.share_lock.specs.Lock.{refuses_share, holds_back, with_share, without_share, seeking, releasing};
@@ -75,13 +75,12 @@ impl LockState {
     }
 
     /// Becomes exclusive, once more if the seat is so already. Where that is busy and it may wait, the seat yields
-    /// what it
-    /// has to seats with a purpose in `list`, and seeks.
+    /// what it has to seats with a purpose in `list`, and seeks.
     pub fn start_exclusive(&mut self, seat: u32, purpose: u8, list: u8, no_wait: bool) -> Start
         requires seat { seat < length self.old.rows }
         requires calm { (row_of self.old seat).phase ≡ Phase.Calm }
         requires purpose { purpose ≤ 6 }
-        requires list { has list 7 ≡ false }
+        requires list { has_bit list 7 ≡ false }
         requires depth { self.old.depth < 1000 }
         requires room { length (row_of self.old seat).yields < 8 }
         ensures again { owns self.old.exclusive seat ≡ true
@@ -98,7 +97,7 @@ impl LockState {
             → (result ≡ Start.Seeking)
             × (self.new ≡ changed_at self.old seat (seeking purpose list)) }
     {
-        if self.owns(seat) {
+        if self.is_exclusive(seat) {
             self.depth += 1;
             return Start::Taken;
         }
@@ -120,12 +119,11 @@ impl LockState {
     }
 
     /// Ends being exclusive once. Where no seat is exclusive then and some waiting seat can go first, the seat yields
-    /// what it
-    /// has to seats with a purpose in `list`, and waits.
+    /// what it has to seats with a purpose in `list`, and waits.
     pub fn stop_exclusive(&mut self, seat: u32, list: u8) -> Stop
         requires seat { seat < length self.old.rows }
         requires exclusive { owns self.old.exclusive seat ≡ true }
-        requires list { has list 7 ≡ false }
+        requires list { has_bit list 7 ≡ false }
         requires room { length (row_of self.old seat).yields < 8 }
         ensures deeper { 1 < self.old.depth
             → (result ≡ Stop.Deeper) × (self.new ≡ record self.old { depth = self.old.depth - 1 }) }
@@ -179,7 +177,7 @@ impl LockState {
         ensures resumed { another_exclusive self.old.exclusive seat ≡ false
             → (result ≡ Resume.Resumed) × (self.new ≡ changed_at self.old seat restored) }
     {
-        if self.another_owns(seat) {
+        if self.is_another_exclusive(seat) {
             return Resume::Still;
         }
         self.rows.restore(seat as usize);
@@ -221,7 +219,11 @@ impl LockState {
         let row = self.rows.at(seat as usize);
         Holds {
             shares: row.shares,
-            depth: if self.owns(seat) { self.depth } else { 0 },
+            depth: if self.is_exclusive(seat) {
+                self.depth
+            } else {
+                0
+            },
             phase: row.phase,
         }
     }
@@ -234,8 +236,24 @@ impl LockState {
     }
 }
 
+/// Readings. They change nothing, and all but `is_eligible` take the same time however many seats there are.
 impl LockState {
-    fn owns(&self, seat: u32) -> bool
+    /// The seat that is exclusive, if any.
+    pub fn exclusive(&self) -> Option<u32>
+        ensures { result ≡ self.now.exclusive }
+    {
+        self.exclusive
+    }
+
+    /// How many times over the exclusive seat is exclusive, and 0 where none is.
+    pub fn depth(&self) -> u32
+        ensures { result ≡ self.now.depth }
+    {
+        self.depth
+    }
+
+    /// Whether the seat is exclusive.
+    pub fn is_exclusive(&self, seat: u32) -> bool
         ensures { result ≡ owns self.now.exclusive seat }
     {
         match self.exclusive {
@@ -244,7 +262,8 @@ impl LockState {
         }
     }
 
-    fn another_owns(&self, seat: u32) -> bool
+    /// Whether another seat is exclusive.
+    pub fn is_another_exclusive(&self, seat: u32) -> bool
         ensures { result ≡ another_exclusive self.now.exclusive seat }
     {
         match self.exclusive {
@@ -253,15 +272,17 @@ impl LockState {
         }
     }
 
-    fn is_busy_for_share(&self, seat: u32, bit: u8) -> bool
+    /// Whether the seat has to wait for a share that this bit stands for: a new share is bit 7.
+    pub fn is_busy_for_share(&self, seat: u32, bit: u8) -> bool
         requires seat { seat < length self.now.rows }
         requires bit { bit < 8 }
         ensures { result ≡ busy_share self.now.rows self.now.exclusive seat bit }
     {
-        self.another_owns(seat) || self.rows.another_lacks(seat as usize, bit)
+        self.is_another_exclusive(seat) || self.rows.another_lacks(seat as usize, bit)
     }
 
-    fn is_busy_for_exclusive(&self, seat: u32, purpose: u8) -> bool
+    /// Whether the seat has to wait until it is exclusive for this purpose.
+    pub fn is_busy_for_exclusive(&self, seat: u32, purpose: u8) -> bool
         requires seat { seat < length self.now.rows }
         requires purpose { purpose ≤ 6 }
         ensures { result ≡ busy_exclusive self.now.rows self.now.exclusive seat purpose }
@@ -269,15 +290,24 @@ impl LockState {
         self.is_busy_for_share(seat, purpose) || self.rows.another_shares(seat as usize)
     }
 
+    /// Whether some waiting seat with a purpose in the list goes first. This looks at each row once.
+    pub fn is_eligible(&self, list: u8) -> bool
+        ensures { result ≡ eligible list self.now.rows }
+    {
+        self.rows.is_eligible(list)
+    }
+}
+
+impl LockState {
     fn refuses_share(&self, seat: u32) -> bool
         requires { seat < length self.now.rows }
         ensures { result ≡ refuses_share self.now.rows self.now.exclusive seat }
     {
         let row = self.rows.at(seat as usize);
-        if row.shares > 0 || self.owns(seat) {
+        if row.shares > 0 || self.is_exclusive(seat) {
             false
         } else if row.wait.is_some() {
-            self.another_owns(seat)
+            self.is_another_exclusive(seat)
         } else {
             self.is_busy_for_share(seat, 7)
         }

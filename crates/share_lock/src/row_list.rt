@@ -57,7 +57,7 @@ impl Rows {
         ensures err { OnErr result (self.new ≡ self.old) }
     {
         self.rows.reserve(1)?;
-        self.counts.enter(&item);
+        self.counts.count_in(&item);
         self.rows.push_reserved(item);
         Ok(())
     }
@@ -123,9 +123,9 @@ impl Rows {
             record row { shares = row.shares + 1 }) }
     {
         let row = &mut self.rows[seat];
-        self.counts.leave(row);
+        self.counts.count_out(row);
         row.shares += 1;
-        self.counts.enter(row);
+        self.counts.count_in(row);
     }
 
     pub(crate) fn unshare(&mut self, seat: usize)
@@ -135,9 +135,9 @@ impl Rows {
             record row { shares = row.shares - 1 }) }
     {
         let row = &mut self.rows[seat];
-        self.counts.leave(row);
+        self.counts.count_out(row);
         row.shares -= 1;
-        self.counts.enter(row);
+        self.counts.count_in(row);
     }
 
     pub(crate) fn yield_to(&mut self, seat: usize, wait: Wait, blocks: bool, phase: Phase)
@@ -146,10 +146,10 @@ impl Rows {
         ensures { self.new ≡ slice_set self.old seat (in_phase phase (yielding (row_at self.old seat) wait blocks)) }
     {
         let row = &mut self.rows[seat];
-        self.counts.leave(row);
+        self.counts.count_out(row);
         row.yield_to(wait, blocks);
         row.phase = phase;
-        self.counts.enter(row);
+        self.counts.count_in(row);
     }
 
     pub(crate) fn restore(&mut self, seat: usize)
@@ -158,9 +158,9 @@ impl Rows {
         ensures { self.new ≡ slice_set self.old seat (in_phase Calm (restoring (row_at self.old seat))) }
     {
         let row = &mut self.rows[seat];
-        self.counts.leave(row);
+        self.counts.count_out(row);
         row.restore();
         row.phase = Phase::Calm;
-        self.counts.enter(row);
+        self.counts.count_in(row);
     }
 }

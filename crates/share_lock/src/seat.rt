@@ -1,6 +1,7 @@
 //! What the lock keeps of one seat.
 ghost use Rattle.std.specs.Prelude.{◌≡◌, ◌<◌, length, true};
-ghost use Rattle.share_lock.specs.Rows.{has, lacks, inside, admitting, yielding, restoring, common_purpose};
+ghost use Rattle.share_lock.specs.Rows.{has_bit, lacks_bit, wait_inside, wait_admitting, yielding, restoring};
+ghost use Rattle.share_lock.specs.Rows.{common_purpose};
 
 use crate::saved_list::SavedList;
 
@@ -39,7 +40,7 @@ pub struct Row {
 
 // Whether a list has a bit.
 pub(crate) fn has_bit(list: u8, bit: u8) -> bool
-    ensures has { result ≡ has list bit }
+    ensures has { result ≡ has_bit list bit }
     ensures small { result ≡ true → bit < 8 }
 {
     bit < 8 && (list >> bit) & 1 == 1
@@ -47,7 +48,7 @@ pub(crate) fn has_bit(list: u8, bit: u8) -> bool
 
 // Whether a seat with this wait waits with a list that lacks the bit.
 pub(crate) fn lacks_bit(wait: Option<Wait>, bit: u8) -> bool
-    ensures { result ≡ lacks wait bit }
+    ensures { result ≡ lacks_bit wait bit }
 {
     match wait {
         None => false,
@@ -55,7 +56,7 @@ pub(crate) fn lacks_bit(wait: Option<Wait>, bit: u8) -> bool
     }
 }
 
-fn common(outer: Option<u8>, purpose: Option<u8>) -> Option<u8>
+fn common_purpose(outer: Option<u8>, purpose: Option<u8>) -> Option<u8>
     ensures { result ≡ common_purpose outer purpose }
 {
     match (outer, purpose) {
@@ -65,19 +66,19 @@ fn common(outer: Option<u8>, purpose: Option<u8>) -> Option<u8>
 }
 
 fn wait_inside(outer: Option<Wait>, wait: Wait) -> Wait
-    ensures { result ≡ inside outer wait }
+    ensures { result ≡ wait_inside outer wait }
 {
     match outer {
         None => wait,
         Some(outer) => Wait {
-            purpose: common(outer.purpose, wait.purpose),
+            purpose: common_purpose(outer.purpose, wait.purpose),
             list: wait.list & outer.list,
         },
     }
 }
 
 fn wait_admitting(blocks: bool, wait: Wait) -> Wait
-    ensures { result ≡ admitting blocks wait }
+    ensures { result ≡ wait_admitting blocks wait }
 {
     if blocks {
         wait
@@ -90,11 +91,11 @@ fn wait_admitting(blocks: bool, wait: Wait) -> Wait
 }
 
 impl Row {
-    ghost use Rattle.share_lock.specs.Rows.{rest};
+    ghost use Rattle.share_lock.specs.Rows.{resting_row};
 
     /// The row of a seat that does nothing.
     pub fn new() -> Row
-        ensures { result ≡ rest }
+        ensures { result ≡ resting_row }
     {
         Row {
             shares: 0,

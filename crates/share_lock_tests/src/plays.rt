@@ -1,7 +1,4 @@
 //! Plays over a lock: calls, each with what it is to answer.
-use crate::conditions::{
-    can_resume, can_retake, can_share, can_start, can_stop, can_unshare, can_yield,
-};
 use interlock::Interlock;
 use share_lock::{LockState, Resume, Share, Start, Stop};
 use std::process::Abort;
@@ -72,7 +69,7 @@ fn make(lock: &mut LockState, seat: u32, call: Call) -> Answer {
 }
 
 fn shared(lock: &mut LockState, seat: u32, runs: bool) -> Answer {
-    if !can_share(lock, seat) {
+    if !lock.can_share(seat) {
         Answer::Refused
     } else if runs {
         Answer::Shared(lock.start_running(seat))
@@ -82,7 +79,7 @@ fn shared(lock: &mut LockState, seat: u32, runs: bool) -> Answer {
 }
 
 fn unshared(lock: &mut LockState, seat: u32, runs: bool) -> Answer {
-    if !can_unshare(lock, seat) {
+    if !lock.can_unshare(seat) {
         return Answer::Refused;
     }
     if runs {
@@ -94,7 +91,7 @@ fn unshared(lock: &mut LockState, seat: u32, runs: bool) -> Answer {
 }
 
 fn started(lock: &mut LockState, seat: u32, loads: bool) -> Answer {
-    if !can_start(lock, seat) {
+    if !lock.can_start(seat) {
         Answer::Refused
     } else if loads {
         Answer::Started(lock.start_loading(seat))
@@ -104,14 +101,14 @@ fn started(lock: &mut LockState, seat: u32, loads: bool) -> Answer {
 }
 
 fn started_at_once(lock: &mut LockState, seat: u32) -> Answer {
-    if !can_start(lock, seat) {
+    if !lock.can_start(seat) {
         return Answer::Refused;
     }
     Answer::Started(lock.start_exclusive(seat, 0, 1, true))
 }
 
 fn stopped(lock: &mut LockState, seat: u32, loads: bool) -> Answer {
-    if !can_stop(lock, seat) {
+    if !lock.can_stop(seat) {
         Answer::Refused
     } else if loads {
         Answer::Stopped(lock.done_loading(seat))
@@ -121,14 +118,14 @@ fn stopped(lock: &mut LockState, seat: u32, loads: bool) -> Answer {
 }
 
 fn stopped_once(lock: &mut LockState, seat: u32) -> Answer {
-    if !can_stop(lock, seat) {
+    if !lock.can_stop(seat) {
         return Answer::Refused;
     }
     Answer::Stopped(lock.stop_exclusive(seat, 1))
 }
 
 fn permitted(lock: &mut LockState, seat: u32) -> Answer {
-    if !can_yield(lock, seat) {
+    if !lock.can_yield(seat) {
         return Answer::Refused;
     }
     lock.permit_begin(seat);
@@ -136,7 +133,7 @@ fn permitted(lock: &mut LockState, seat: u32) -> Answer {
 }
 
 fn yielded(lock: &mut LockState, seat: u32, list: u8) -> Answer {
-    if !can_yield(lock, seat) {
+    if !lock.can_yield(seat) {
         return Answer::Refused;
     }
     lock.yield_shares(seat, list);
@@ -144,7 +141,7 @@ fn yielded(lock: &mut LockState, seat: u32, list: u8) -> Answer {
 }
 
 fn back(lock: &mut LockState, seat: u32, permit: bool) -> Answer {
-    if !can_retake(lock, seat) {
+    if !lock.can_retake(seat) {
         Answer::Refused
     } else if permit {
         Answer::Back(lock.permit_end(seat))
@@ -154,7 +151,7 @@ fn back(lock: &mut LockState, seat: u32, permit: bool) -> Answer {
 }
 
 fn resumed(lock: &mut LockState, seat: u32) -> Answer {
-    if !can_resume(lock, seat) {
+    if !lock.can_resume(seat) {
         return Answer::Refused;
     }
     Answer::Back(lock.try_resume(seat))

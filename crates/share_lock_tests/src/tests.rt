@@ -1,5 +1,4 @@
 //! What a play gives, worked out by hand from the table of the calls.
-use crate::conditions::lock_depth;
 use crate::plays::{Answer, Call, Step, play};
 use share_lock::{
     Holds, LockState, Phase, Resume, Row, Rows, Saved, SavedList, Share, Start, Stop, Wait,
@@ -348,7 +347,7 @@ fn an_unload_waits_for_a_load_that_does_not_admit_it(rt: HostRuntime) -> Result<
 fn a_load_within_a_load_is_deeper_and_keeps_others_out(rt: HostRuntime) -> Result<(), Fail> {
     let mut lock = LockState::new(rt.alloc(), 2)?;
     play(&rt, &mut lock, &LOAD_IN_LOAD);
-    assert_eq!(rt; lock_depth(&lock), 2);
+    assert_eq!(rt; lock.depth(), 2);
     assert_eq!(rt; holds(&lock, 0), Some(TWICE_EXCLUSIVE));
     play(&rt, &mut lock, &OUT_OF_LOADS);
     Ok(())

@@ -23,6 +23,7 @@ abbrev no_step : {S : Type 0} → Step S
 no_step = step 0 0 0 0 none
 
 module _ {B E W : Type 0} (history : B → List E) (seat_of : E → ℕ) where
+  -- the first ticket's fields tell what its seat knows
   pub backed_first : (rows : B → ℕ → W) (value : B) (count : ℕ) (m : SeatState B E W) →
       count ≡ length (history value) → NoneFrom seat_of 1 (history value) → m ≡ (first_view history rows value, []) →
       Backed seat_of 0 count 1 m
@@ -40,6 +41,7 @@ module _ {B E W : Type 0} (history : B → List E) (seat_of : E → ℕ) where
         busy = λ turn. absurd (search rules);
       }
 
+  -- so do those of a ticket that gave a number
   pub backed_gave : (number count next : ℕ) (m n : SeatState B E W) → Backed seat_of number count next m →
       next < 64 → n ≡ (after_giving m.0, m.1) → Backed seat_of number count (next + 1) n
   backed_gave number count next m n h room is =

@@ -48,6 +48,7 @@ module _ {B E W : Type 0} (history : B → List E) (seat_of : E → ℕ) (rows :
   value_of (Some b) h = (b, refl)
   value_of None h = absurd (search rules)
 
+  -- Draw keeps the rule, and the seat has the ticket that the word held
   pub draws : (slots id : ℕ) (v : V) (c : List (ℕ × Option B)) → v.live ≡ true → v.ticket ≡ None → v.turn ≡ None →
       Allows Rule slots id (v, c) 0 (λ n. (n + 1) % 18446744073709551616) (DrawsTicket none_step (v, c))
   draws slots id v c live idle out s r deep at wide =
@@ -123,6 +124,7 @@ module _ {B E W : Type 0} (history : B → List E) (seat_of : E → ℕ) (rows :
             sym (set_again s.views id v at) i;
       }) r
 
+  -- Look keeps the rule, and where the word is the seat's ticket the seat takes the slot
   pub looks : (slots id : ℕ) (v : V) (c : List (ℕ × Option B)) (t : ℕ) → v.live ≡ true → v.ticket ≡ Some t →
       v.turn ≡ None → Allows Rule slots id (v, c) 1 (λ n. n) (LooksForTurn history seat_of rows none_step (v, c))
   looks slots id v c t live has idle s r deep at wide =
@@ -388,6 +390,7 @@ module _ {B E W : Type 0} (history : B → List E) (seat_of : E → ℕ) (rows :
           }
       one (suc i) v e = absurd (some-ne-none v (sym e))
 
+  -- Give keeps the rule: the new seat's number was never given
   pub splits : (id : ℕ) (v : V) → v.live ≡ true → v.number ≡ 0 → v.next < 64 →
       Splits Rule id v (after_giving v) (newcomer rest v)
   splits id v live zero_th room s r at =
@@ -498,7 +501,10 @@ module _ {B E W : Type 0} (history : B → List E) (seat_of : E → ℕ) (rows :
         words = r.words;
         homes = r.homes;
         kept = r.kept;
-        out = (let t = total_set ticket_count s.views id v w at in let y = total_set ticket_count vs other u x there in let none : ticket_count u ≡ 0 = ap count_some idle in let o = r.out in omega arith);
+        out = (let t = total_set ticket_count s.views id v w at in
+            let y = total_set ticket_count vs other u x there in
+            let none : ticket_count u ≡ 0 = ap count_some idle in
+            let o = r.out in omega arith);
         busy = r.busy;
         few = (let t = total_set live_count s.views id v w at in let y = total_set live_count vs other u x there in
             let f = r.few in (omega arith, omega arith));
@@ -531,6 +537,7 @@ module _ {B E W : Type 0} (history : B → List E) (seat_of : E → ℕ) (rows :
             (λ j d _ e. r.each j d e) j d e);
       }
 
+  -- Compare keeps the rule, and tells that both lists are beginnings of one history
   pub compares : (slots id : ℕ) (v : V) (c : List (ℕ × Option B)) → v.live ≡ true →
       Allows Rule slots id (v, c) 0 (λ n. n) (ComparesHeard seat_of none_step (v, c))
   compares slots id v c live s r deep at wide =
@@ -599,6 +606,7 @@ module _ {B E W : Type 0} (history : B → List E) (seat_of : E → ℕ) (rows :
   abbrev M : Type 0
   M = Me (Option B) V
 
+  -- Record keeps the rule, of a seat that has put a value with one entry more into the slot
   pub records_at : (slots id : ℕ) (m : M) (v : V) (now : B) → m ≡ (v, (0, Some now) ∷ []) → v.live ≡ true →
       IsSome v.turn → Added history seat_of true now v
       → Allows Rule slots id m 2 (λ n. (n + 1) % 18446744073709551616) (RecordsEntry history none_step m)
@@ -607,6 +615,7 @@ module _ {B E W : Type 0} (history : B → List E) (seat_of : E → ℕ) (rows :
       (RecordsEntry history none_step x)) (sym is)
       (records slots id v b.0 now added.0 live b.1 added.1 added.2)
 
+  -- Done keeps the rule, of a seat that has put the value into the slot
   pub ends_at : (slots id : ℕ) (m : M) (v : V) (now : B) → m ≡ holding history now v → v.live ≡ true →
       IsSome v.turn → ((b : B) (k : ℕ) → v.turn ≡ Some b → k < 64 → k ≢ v.number → rows now k ≡ rows b k)
       → Allows Rule slots id m 1 (λ n. (n + 1) % 18446744073709551616) (EndsTurn rows none_step m)
@@ -617,6 +626,7 @@ module _ {B E W : Type 0} (history : B → List E) (seat_of : E → ℕ) (rows :
 
 -- after the value is put into the slot that is held
 module _ {B V : Type 0} where
+  -- what a seat has in its hand after a value was put into its slot
   pub exchanged_is : (m n : Me (Option B) V) (now : B) → m.1 ≡ (0, None) ∷ [] →
       n ≡ (m.0, (0, Some now) ∷ held_rest m.1) → n ≡ (m.0, (0, Some now) ∷ [])
   exchanged_is m n now one is = is ∙ ap (λ l. (m.0, (0, Some now) ∷ held_rest l)) one
@@ -635,6 +645,7 @@ module _ {B E W : Type 0} (history : B → List E) (seat_of : E → ℕ) (value 
   one_added differ (inl is) = absurd (differ (ap length is))
   one_added differ (inr more) = more
 
+  -- a length that is not the one seen tells that an entry was added
   pub added_if : (len seen_len : ℕ) → len ≡ length (history value) → seen_len ≡ length v.seen → May →
       Added history seat_of (not (eqb len seen_len)) value v
   added_if len seen_len l s may = dite (ℕ_discrete len seen_len)

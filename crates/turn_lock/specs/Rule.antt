@@ -13,10 +13,12 @@ abbrev pub total : {A : Type 0} → (A → ℕ) → List A → ℕ
 total f [] = 0
 total f (x ∷ xs) = f x + total f xs
 
+-- 1 where there is one
 abbrev pub count_some : Option ℕ → ℕ
 count_some (Some _) = 1
 count_some None = 0
 
+-- 1 where it is so
 abbrev pub count_true : Bool → ℕ
 count_true true = 1
 count_true false = 0
@@ -37,8 +39,7 @@ slot_home false value = some (Some value)
 
 module _ {B E W : Type 0} (history : B → List E) (seat_of : E → ℕ) (rows : B → ℕ → W) (rest : W) where
   -- What the rule says of the view of the seat i. The numbers below given were given; owner has the seat of each
-  -- number,
-  -- and holder the seat of each ticket that is out.
+  -- number, and holder the seat of each ticket that is out.
   pub record Fits
       (log : List E) (value : B) (taken : Bool) (served drawn given : ℕ) (owner holder : ℕ → ℕ)
       (i : ℕ) (v : View B E W) : Type 0 where

@@ -9,6 +9,7 @@ use Rattle.turn_lock.specs.Entries.{NoneFrom, Lags, Begins, longer}
 abbrev pub SeatState : Type 0 → Type 0 → Type 0 → Type 0
 SeatState B E W = Me (Option B) (View B E W)
 
+-- the number, or 0 where there is none
 abbrev pub number_or_0 : Option ℕ → ℕ
 number_or_0 (Some t) = t
 number_or_0 None = 0
@@ -95,6 +96,7 @@ module _ {B E W : Type 0} where
   abbrev pub after_taking_in : View B E W → View B E W → View B E W
   after_taking_in v w = record v { heard = w.seen }
 
+  -- the view of a seat that was joined to another one
   abbrev pub spent_view : W → View B E W
   spent_view rest = record {
     live = false;

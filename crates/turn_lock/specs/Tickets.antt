@@ -1,6 +1,7 @@
 -- What contracts see of a ticket, and what the calls need of the value.
 use Rattle.std.specs.Prelude.{◌≡◌, ◌≢◌, ◌⊎◌, ℕ, ◌<◌, ◌≤◌, true, List, [], ◌∷◌, ◌++◌, length, Option, Some, None, IsSome}
-use Rattle.atomic_table.specs.Seated.{TableId}
+use base.Stored.{Coded}
+use Rattle.atomic_table.specs.Seated.{TableId, table_id_coded}
 use Rattle.atomic_table.specs.declared.shared.Seat.{Seat}
 use Rattle.turn_lock.specs.declared.view.View.{View}
 use Rattle.turn_lock.specs.Entries.{NoneFrom}
@@ -10,6 +11,11 @@ use Rattle.turn_lock.specs.Steps.{SeatState}
 abbrev pub LockId : Type 0
 LockId = TableId
 
+-- A type that holds a lock can have the lock's identity as what contracts see of it: this is its `coded`.
+abbrev pub lock_id_coded : Coded LockId
+lock_id_coded = table_id_coded
+
+-- what contracts see of a ticket
 pub record TicketView (B E W : Type 0) : Type 0 where
   -- the lock that the ticket is of
   pub lock : LockId
@@ -24,6 +30,7 @@ pub record TicketView (B E W : Type 0) : Type 0 where
   pub turn : Option B
 
 module _ {B E W : Type 0} where
+  -- a ticket's view is that of its seat
   abbrev pub ticket_view : Seat (Option B) (View B E W) → TicketView B E W
   ticket_view s = record {
     lock = s.table_id;

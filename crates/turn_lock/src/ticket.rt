@@ -8,8 +8,7 @@ use std::marker::Model;
 
 /// The right to take turns, and what was seen in them.
 ///
-/// Contracts see which lock it is of, its number, the next number that it gives, what it has seen, its row, and,
-/// between
+/// Contracts see which lock it is of, its number, the next number that it gives, what it has seen, its row, and, between
 /// `enter` and `leave`, the value that `enter` gave.
 #[derive(Drop)]
 pub struct Ticket<B: Booked + Drop> {

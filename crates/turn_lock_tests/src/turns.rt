@@ -1,6 +1,7 @@
 //! Turns over a shared tally.
 ghost use Rattle.std.specs.Prelude.{◌≡◌, None, All, IfOk};
-ghost use Rattle.turn_lock_tests.specs.Ready.{IsReady};
+ghost use Rattle.turn_lock.specs.Entries.{Begins};
+ghost use Rattle.turn_lock_tests.specs.Ready.{IsReady, WasSeenIn};
 
 use crate::tally::Tally;
 use std::alloc::{AllocError, Global};
@@ -37,12 +38,14 @@ pub fn split_many(
     Ok(tickets)
 }
 
-/// The first ticket takes in what the others have seen.
+/// The first ticket takes in what the others have seen: what each of them had seen begins what it has seen then.
 pub fn gather(lock: &TurnLock<Tally>, first: &mut Ticket<Tally>, mut others: Vec<Ticket<Tally>>)
     requires first { IsReady lock.now first.old }
     requires others { All (IsReady lock.now) others.items }
     ensures ready { IsReady lock.now first.new }
     ensures same { first.new.number ≡ first.old.number }
+    ensures mine { Begins first.old.seen first.new.seen }
+    ensures theirs { All (WasSeenIn first.new.seen) others.items }
 {
     while let Some(other) = others.pop() {
         lock.join(first, other);

@@ -1,5 +1,7 @@
 use Rattle.std.proofs.Common.{◌≡◌, All}
+use Rattle.turn_lock.specs.Entries.{Begins}
 use Rattle.turn_lock_tests.specs.Ready.{IsReady}
+use Rattle.turn_lock_tests.proofs.Joins.{IsGathered}
 use Rattle.turn_lock_tests.proofs.turns.gather.Given as goal
 
 abbrev pub invariant-loop-other : goal.invariant-loop-other
@@ -7,8 +9,9 @@ invariant-loop-other l =
     record {
       ready : IsReady l.lock l.first;
       same : l.first.number ≡ l.initial.first.number;
-      others : All
-          (IsReady l.lock) l.others.items;
+      others : All (IsReady l.lock) l.others.items;
+      mine : Begins l.initial.first.seen l.first.seen;
+      gathered : IsGathered l.initial.others.items l.others.items l.first.seen;
     }
 
 abbrev pub decreases-loop-other : goal.decreases-loop-other
