@@ -6,3 +6,5 @@ pub mod Configuration
 pub mod Patterns
 pub mod Matching
 pub mod Inflections
+pub mod Places
+pub mod PatternIndex

@@ -6,17 +6,23 @@
 
 mod config;
 mod entries;
+mod inflections;
 mod matching;
 mod operands;
 mod paths;
+mod pattern_index;
 mod patterns;
+mod plain_patterns;
 mod reading;
+mod starred;
 mod text;
 
 pub use config::{
     Config, ConfigFault, ConfigKind, ConfigText, ConfigTexts, LoadLine, LoadLines, Patterns,
     RootLine, RootLines, TextPairs,
 };
+pub use inflections::Inflections;
 pub use paths::is_constant;
+pub use pattern_index::PatternIndex;
 pub use patterns::names;
 pub use reading::read;
