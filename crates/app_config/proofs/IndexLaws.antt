@@ -1,13 +1,12 @@
 -- Arranged patterns: what they name is what the patterns name.
-use Rattle.std.proofs.Common.{◌≡◌, ◌≢◌, ◌==◌, ◌<◌, ◌≤◌, ◌+◌, ◌-◌, ℕ, zero, suc, Bool, true, false, cond, not, ◌||◌}
+use Rattle.std.proofs.Common.{◌≡◌, ◌==◌, ◌<◌, ℕ, Bool, true, false, cond, not, ◌||◌}
 use Rattle.std.proofs.Common.{List, [], ◌∷◌, ◌++◌, length, map, take, drop, get_or, Contains, refl, sym, ap, subst, ◌∙◌}
-use Rattle.std.proofs.Common.{inl, inr, ◌⊎◌, ◌↔◌, eqb, ltb, leb, arith}
+use Rattle.std.proofs.Common.{inl, inr, ◌⊎◌, ltb, leb, arith}
 use Rattle.std.specs.Prelude.{Result, Ok, Err, MatchBool, is_ok}
-use Rattle.std.specs.List.{filter, onto_first, join_with_byte, Any, AllZip}
-use Rattle.std.specs.List.Sorted.{IsPermutation, IsPartitionPoint, IsBinarySearchResult, IsSearchInRange}
+use Rattle.std.specs.List.{filter, onto_first, join_with_byte, AllZip}
+use Rattle.std.specs.List.Sorted.{IsPartitionPoint, IsBinarySearchResult, IsSearchInRange}
 use Rattle.std.specs.Ordering.{nat_cmp}
 use Rattle.std.specs.Cmp.Lexicographic.{slice_cmp}
-use Rattle.std.specs.declared.cmp.Ordering.{Ordering}
 use Rattle.std.specs.declared.cmp.Ordering.TheVariants.{Less, Equal, Greater}
 use Rattle.std.proofs.lemmas.Bool.{false≢true, cases_lt, ltb-true}
 use Rattle.std.proofs.lemmas.Cmp.{nat_list_cmp_total, tied_itself}
@@ -22,9 +21,10 @@ use Rattle.app_config.specs.Text.{split}
 use Rattle.app_config.specs.Paths.{segments}
 use Rattle.app_config.specs.Patterns.{Fits, Names, IsNamed}
 use Rattle.app_config.specs.Patterns.Fits.{ends, byte, star}
-use Rattle.app_config.specs.PatternIndex.{has_star, slashes, texts, AreInOrder, AreByCount, IsGroup, SomeNames, IsArranged}
+use Rattle.app_config.specs.Indexes.Arranged.{has_star, slashes, texts, AreInOrder, AreByCount, IsGroup, SomeNames}
+use Rattle.app_config.specs.Indexes.Arranged.{IsArranged}
 use Rattle.app_config.specs.declared.starred.Starred.{Starred}
-use Rattle.app_config.proofs.MemberLaws.{MatchBool-same, Contains-filter, filter-contains, filter-passes, Contains-map}
+use Rattle.app_config.proofs.MemberLaws.{MatchBool-same, Contains-filter, filter-contains, Contains-map}
 use Rattle.app_config.proofs.MemberLaws.{map-contains, Any-contains, contains-any, All-take_within, All-drop_within}
 use denote.Ref.{Bor}
 
@@ -164,10 +164,10 @@ IsGroup-parts wanted starred rest start count e low high = λ one.
     let more = All-contains (λ y. leb y.slashes wanted ≡ false) (drop count rest) one
     (All-drop_within (λ y. leb y.slashes wanted ≡ false) rest count high.1) in (
       (λ h.
-        let in_rest = subst P parts (Contains-append_left (take count rest) (drop count rest) one h) in (
-          subst P whole (Contains-append_right (take start starred) rest one in_rest),
-          between one.slashes wanted (no_fewer (subst P e in_rest)) (no_more h),
-        )),
+          let in_rest = subst P parts (Contains-append_left (take count rest) (drop count rest) one h) in (
+            subst P whole (Contains-append_right (take start starred) rest one in_rest),
+            between one.slashes wanted (no_fewer (subst P e in_rest)) (no_more h),
+          )),
       (λ (h, same). elim (Contains-append_cases (take start starred) rest one (subst P (sym whole) h)) [
         | inl k ↦ absurd (not_fewer one.slashes wanted same (fewer k))
         | inr k ↦ elim (Contains-append_cases (take count rest) (drop count rest) one (subst P (sym parts) k)) [
@@ -187,8 +187,11 @@ SomeNames-group starred group path answer by_count is_group h =
     Any-contains (λ one. Names one.pattern.now path) starred r.0 (((is_group r.0).0 r.1).0) r.2)
     (λ some. let r = contains-any (λ one. Names one.pattern.now path) starred some in
     Any-contains (λ one. Names one.pattern.now path) group r.0
-    ((is_group r.0).1 (r.1, All-contains (λ one. one.slashes ≡ slashes one.pattern.now) starred r.0 by_count.counted r.1
-    ∙ Names-slashes r.0.pattern.now path r.2)) r.2) h
+    ((is_group r.0).1 (
+      r.1,
+      All-contains (λ one. one.slashes ≡ slashes one.pattern.now) starred r.0 by_count.counted r.1
+          ∙ Names-slashes r.0.pattern.now path r.2,
+    )) r.2) h
 
 -- ---- both
 

@@ -1,5 +1,6 @@
 -- The places of the last lines of bases, while a map of them is made and when it is read.
-use Rattle.std.proofs.Common.{◌≡◌, ◌≢◌, ◌+◌, ◌<◌, ℕ, true, false, cond, List, length, drop, get_or, refl, sym, ap, below_more, length-drop}
+use Rattle.std.proofs.Common.{◌≡◌, ◌≢◌, ◌+◌, ◌<◌, ℕ, true, false, cond, List, length, get_or, refl, sym, ap}
+use Rattle.std.proofs.Common.{below_more, length-drop}
 use Rattle.std.proofs.Common.{subst, ◌∙◌, arith}
 use Rattle.std.specs.Prelude.{Option, Some, None, slice_get, bytes_eq}
 use Rattle.std.specs.Ordering.{nat_cmp}
@@ -7,12 +8,11 @@ use Rattle.std.specs.Cmp.Lexicographic.{slice_cmp}
 use Rattle.std.specs.BTreeMap.{BTreeMap, UpdatesBy}
 use Rattle.std.proofs.lemmas.Bool.{false≢true}
 use Rattle.std.proofs.lemmas.List.{get_or_default, get_or-drop}
-
-use Rattle.std.proofs.lemmas.Option.{get_or_from_slice_get, slice_get_within}
+use Rattle.std.proofs.lemmas.Option.{get_or_from_slice_get}
 use Rattle.std.proofs.lemmas.Map.Text.{btree_map_updates_str}
 use Rattle.std.proofs.lemmas.Slice.Eq.{bytes_eq-Decides}
-use Rattle.app_config.specs.Inflections.{LacksBase, IsLastFor}
-use Rattle.app_config.specs.Places.{IsLastPlace, place_of, AreLastPlaces}
+use Rattle.app_config.specs.Inflections.{IsLastFor}
+use Rattle.app_config.specs.Indexes.Places.{IsLastPlace, place_of}
 use Rattle.app_config.proofs.ReadLaws.{IsLastFor-at}
 use denote.Ref.{Bor}
 
@@ -61,4 +61,5 @@ IsLastFor-place pairs base place pair last at =
     let same : pair.0 ≡ base = sym (ap (λ p. p.0) here) ∙ last.1 pair in
     IsLastFor-at pairs place base pair.1 pair last.0 (here ∙ ap (λ b. (b, pair.1)) same)
     (λ k d within. let P : List ℕ × List ℕ → Type 0 = λ p. p.0 ≢ base in
-    subst P (sym (get_or-drop (place + 1) pairs k d)) (last.2 (place + 1 + k) d (omega arith) (omega (arith, length-drop (place + 1) pairs))))
+    subst P (sym (get_or-drop (place + 1) pairs k d))
+    (last.2 (place + 1 + k) d (omega arith) (omega (arith, length-drop (place + 1) pairs))))

@@ -1,6 +1,6 @@
 ghost use Rattle.std.specs.Prelude.{◌≡◌, IfOk, MatchOption};
 ghost use Rattle.app_config.specs.Inflections.{IsLastFor, LacksBase};
-ghost use Rattle.app_config.specs.Places.{AreLastPlaces};
+ghost use Rattle.app_config.specs.Indexes.Places.{AreLastPlaces};
 
 use crate::config::{ConfigText, TextPairs};
 use std::alloc::{AllocError, Global};
@@ -20,7 +20,7 @@ impl<'a> Model for Inflections<'a> {
 
     ghost Value = { List (List ℕ × List ℕ) };
 
-    ghost use Rattle.app_config.specs.Places.{AreLastPlaces};
+    ghost use Rattle.app_config.specs.Indexes.Places.{AreLastPlaces};
 
     ghost view = { λ i. i.pairs.now };
 
@@ -48,6 +48,7 @@ impl<'a> Inflections<'a> {
     }
 }
 
+/// The place of the last line of each base.
 fn last_places<'a>(
     alloc: Global,
     pairs: &'a [(ConfigText, ConfigText)],

@@ -1,9 +1,7 @@
 ghost use Rattle.std.specs.Prelude.{◌≡◌, MatchBool, IfOk};
 ghost use Rattle.app_config.specs.Patterns.{IsNamed};
-ghost use Rattle.app_config.specs.PatternIndex as spec;
-ghost use Rattle.app_config.specs.PatternIndex.{ArePlain, AreStarred};
 
-use crate::config::{ConfigText, Patterns};
+use crate::config::Patterns;
 use crate::plain_patterns::{contains, plain_patterns};
 use crate::starred::{Starred, some_names, starred_patterns};
 use std::alloc::{AllocError, Global};
@@ -25,7 +23,7 @@ impl<'a> Model for PatternIndex<'a> {
 
     ghost Value = { List (List ℕ) };
 
-    ghost use Rattle.app_config.specs.PatternIndex.{IsArranged};
+    ghost use Rattle.app_config.specs.Indexes.Arranged.{IsArranged};
 
     ghost view = { λ i. i.patterns.now };
 

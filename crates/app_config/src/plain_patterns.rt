@@ -1,7 +1,7 @@
 //! Patterns without a star: each names its own path alone.
 ghost use Rattle.std.specs.Prelude.{◌≡◌, MatchBool, IfOk, Contains};
-ghost use Rattle.app_config.specs.PatternIndex as spec;
-ghost use Rattle.app_config.specs.PatternIndex.{ArePlain, AreInOrder, texts};
+ghost use Rattle.app_config.specs.Indexes.Arranged as spec;
+ghost use Rattle.app_config.specs.Indexes.Arranged.{ArePlain, AreInOrder, texts};
 
 use crate::config::ConfigText;
 use std::alloc::{AllocError, Global};

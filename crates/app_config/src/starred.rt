@@ -1,7 +1,7 @@
 //! Patterns with a star, by their numbers of segments.
 ghost use Rattle.std.specs.Prelude.{◌≡◌, MatchBool, IfOk};
-ghost use Rattle.app_config.specs.PatternIndex as spec;
-ghost use Rattle.app_config.specs.PatternIndex.{AreStarred, AreByCount, IsGroup, SomeNames};
+ghost use Rattle.app_config.specs.Indexes.Arranged as spec;
+ghost use Rattle.app_config.specs.Indexes.Arranged.{AreStarred, AreByCount, IsGroup, SomeNames};
 
 use crate::config::ConfigText;
 use crate::patterns::names;

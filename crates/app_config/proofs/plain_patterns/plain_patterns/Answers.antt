@@ -1,5 +1,5 @@
-use Rattle.std.proofs.Common.{rules, not, arith}
-use Rattle.app_config.specs.PatternIndex.{has_star}
+use Rattle.std.proofs.Common.{not, arith}
+use Rattle.app_config.specs.Indexes.Arranged.{has_star}
 use Rattle.app_config.proofs.MemberLaws.{IsPermutation-kept}
 use Rattle.app_config.proofs.plain_patterns.plain_patterns.Goals as goal
 

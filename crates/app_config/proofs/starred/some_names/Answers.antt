@@ -1,5 +1,5 @@
-use Rattle.std.proofs.Common.{◌≡◌, ℕ, List, subst}
-use Rattle.app_config.specs.PatternIndex.{IsGroup}
+use Rattle.std.proofs.Common.{ℕ, subst}
+use Rattle.app_config.specs.Indexes.Arranged.{IsGroup}
 use Rattle.app_config.proofs.IndexLaws.{SomeNames-group}
 use Rattle.app_config.proofs.starred.some_names.Goals as goal
 

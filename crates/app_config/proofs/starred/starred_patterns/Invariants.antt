@@ -1,6 +1,6 @@
 use Rattle.std.proofs.Common.{◌≡◌, ◌++◌, drop, map}
 use Rattle.std.specs.List.{filter, All}
-use Rattle.app_config.specs.PatternIndex.{has_star, slashes}
+use Rattle.app_config.specs.Indexes.Arranged.{has_star, slashes}
 use Rattle.app_config.proofs.starred.starred_patterns.Given as goal
 
 abbrev pub invariant-patterns : goal.invariant-patterns

@@ -1,9 +1,7 @@
-use Rattle.std.proofs.Common.{rules, ◌≡◌, ℕ, List, take, drop, sym, subst, ltb, leb}
+use Rattle.std.proofs.Common.{rules, ltb, leb}
 use Rattle.std.proofs.lemmas.Fn.{always_returns_same}
 use Rattle.std.proofs.lemmas.List.{take_rest}
 use Rattle.std.proofs.lemmas.List.Sorted.{IsPartitionedBy-ltb, IsPartitionedBy-leb, IsNonDecreasingBy-drop}
-use Rattle.app_config.specs.declared.starred.Starred.{Starred}
-use Rattle.app_config.specs.PatternIndex.{IsGroup}
 use Rattle.app_config.proofs.IndexLaws.{IsGroup-parts}
 use Rattle.app_config.proofs.starred.with_slashes.Goals as goal
 

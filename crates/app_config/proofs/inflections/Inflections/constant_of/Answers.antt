@@ -1,6 +1,6 @@
-use Rattle.std.proofs.Common.{◌≡◌, ℕ, List, Option, Some, None, length, subst, sym, ap, ◌∙◌}
+use Rattle.std.proofs.Common.{ℕ, List, Option, length, subst, sym}
 use Rattle.app_config.specs.Inflections.{LacksBase, IsLastFor}
-use Rattle.app_config.specs.Places.{IsLastPlace, place_of}
+use Rattle.app_config.specs.Indexes.Places.{IsLastPlace}
 use Rattle.app_config.proofs.PlaceLaws.{IsLastFor-place}
 use Rattle.app_config.proofs.inflections.Inflections.constant_of.Goals as goal
 
