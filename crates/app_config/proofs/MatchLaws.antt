@@ -11,8 +11,8 @@ use Rattle.std.proofs.lemmas.Slice.Eq.{strip_prefix_is, ends_is}
 use Rattle.app_config.specs.Text.{split}
 use Rattle.app_config.specs.Patterns.{Fits}
 use Rattle.app_config.specs.Patterns.Fits.{ends, byte, star}
-use Rattle.app_config.specs.Matching.{is_empty, some_end, behind, first_of, behind_first, passes, fits_pieces}
-use Rattle.app_config.specs.Matching.{segment_fits, some_end_fits, all_fit}
+use Rattle.app_config.specs.Loops.Matching.{is_empty, some_end, behind, first_of, behind_first, passes, fits_pieces}
+use Rattle.app_config.specs.Loops.Matching.{segment_fits, some_end_fits, all_fit}
 use Rattle.app_config.proofs.PathLaws.{split-some}
 use denote.Ref.{Bor}
 

@@ -7,7 +7,7 @@ use Rattle.std.proofs.lemmas.Bool.{false≢true}
 use denote.Ref.{Bor}
 use Rattle.app_config.specs.Inflections.{LacksBase, IsLastFor}
 use Rattle.app_config.specs.Text.{split, without_return}
-use Rattle.app_config.specs.Left.{parts_left, size_left}
+use Rattle.app_config.specs.Loops.Left.{parts_left, size_left}
 use Rattle.app_config.specs.Entries.{meaning}
 use Rattle.app_config.specs.Configuration.{collected, entries, entry_said, fault_said, faults_from, with_entry}
 use Rattle.app_config.specs.Configuration.{with_said, IsFirst}

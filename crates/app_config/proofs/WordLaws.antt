@@ -1,13 +1,41 @@
 -- Words, and the parts that stand around a byte.
 use Rattle.std.proofs.Common.{◌≡◌, ◌<◌, ◌≤◌, ◌+◌, ◌-◌, ◌==◌, ℕ, true, false, cond, not, List, [], ◌∷◌, length, take}
 use Rattle.std.proofs.Common.{drop, refl, sym, ap, ◌∙◌, arith}
+use Rattle.std.specs.Prelude.{Bool, Some, None, nat_lt}
 use Rattle.std.specs.Str.{IsUtf8, is_utf8}
 use Rattle.std.proofs.lemmas.Str.{IsUtf8-from_is_utf8}
-use Rattle.std.proofs.lemmas.Bool.{eqb-true, false≢true}
+use Rattle.std.proofs.lemmas.Bool.{eqb-true, ltb-true, false≢true}
+use Rattle.std.proofs.lemmas.Bool.Decides.{nat_tests}
 use Rattle.std.proofs.lemmas.List.{take_rest}
 use Rattle.std.proofs.lemmas.List.Splits.{slice_split_first, slice_split-cons_no}
-use Rattle.std.specs.List.{onto_first, filter, position_or_len}
+use Rattle.std.specs.List.{onto_first, filter, position, position_or_len}
 use Rattle.app_config.specs.Text.{split, words, is_filled, behind_spaces}
+
+-- where a position is found, it is the first
+pub position-found : (test : ℕ → Bool) (text : List ℕ) (place : ℕ) → position test text ≡ Some place →
+    (place ≡ position_or_len test text) × (place < length text)
+position-found test text place e =
+    elim (nat_lt (position_or_len test text) (length text)) as (λ v. nat_lt (position_or_len test text) (length text)
+    ≡ v
+    → cond v (Some (position_or_len test text)) None ≡ Some place →
+    (place ≡ position_or_len test text) × (place < length text)) [
+      | true ↦ λ lt h.
+          let same : place ≡ position_or_len test text = cc in
+          let within = ltb-true (position_or_len test text) (length text) lt in
+          (same, omega arith)
+      | false ↦ λ lt h. cc
+    ] refl e
+
+-- where none is found, the test passes nowhere
+pub position-none : (test : ℕ → Bool) (text : List ℕ) → position test text ≡ None →
+    length text ≤ position_or_len test text
+position-none test text e =
+    elim (nat_lt (position_or_len test text) (length text)) as (λ v. nat_lt (position_or_len test text) (length text)
+    ≡ v
+    → cond v (Some (position_or_len test text)) None ≡ None → length text ≤ position_or_len test text) [
+      | true ↦ λ lt h. cc
+      | false ↦ λ lt h. grind (arith, nat_tests)
+    ] refl e
 
 -- a text that has the byte, cut at its first place
 pub split-cut : (byte place : ℕ) (text : List ℕ) → place ≡ position_or_len (λ b. b == byte) text → place < length text →

@@ -1,8 +1,8 @@
 pub mod Text
-pub mod Left
 pub mod Paths
 pub mod Entries
 pub mod Configuration
 pub mod Patterns
-pub mod Matching
 pub mod Inflections
+pub mod Loops
+pub mod Indexes

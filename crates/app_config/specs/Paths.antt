@@ -1,5 +1,5 @@
 -- Constant names, constant paths and the paths of files.
-use Rattle.std.specs.Prelude.{ℕ, Bool, false, List, [], ◌∷◌, ◌++◌, ◌==◌, ◌&&◌, ◌||◌, not, codes, bytes_eq}
+use Rattle.std.specs.Prelude.{ℕ, Bool, false, List, [], ◌∷◌, ◌==◌, ◌&&◌, ◌||◌, not, codes, bytes_eq}
 use Rattle.std.specs.List.{list_all}
 use Rattle.std.specs.Char.{is_ascii_uppercase, is_ascii_alphanumeric}
 use Rattle.app_config.specs.Text.{split, is_filled}
@@ -36,12 +36,6 @@ is_constant_path word = are_constants_apart (split 58 word)
 -- the names of a constant path
 abbrev pub constant_names : List ℕ → List (List ℕ)
 constant_names word = every_second (split 58 word)
-
--- names with `::` between each two
-abbrev pub path_text : List (List ℕ) → List ℕ
-path_text [] = []
-path_text (name ∷ []) = name
-path_text (name ∷ next ∷ rest) = name ++ (58 ∷ 58 ∷ path_text (next ∷ rest))
 
 -- a segment that names a file or a directory: it isn't empty, `.` or `..`
 abbrev pub is_plain : List ℕ → Bool

@@ -1,6 +1,6 @@
 -- Which paths a pattern names.
 use Rattle.std.specs.Prelude.{ℕ, List, [], ◌∷◌, ◌++◌}
-use Rattle.std.specs.List.{AllZip}
+use Rattle.std.specs.List.{AllZip, Any}
 use Rattle.app_config.specs.Paths.{segments}
 
 -- A segment fits one of a pattern: each byte stands for itself, and `*` (42) for any bytes, none among them.
@@ -12,3 +12,7 @@ pub data Fits : List ℕ → List ℕ → Type 0 where
 -- A pattern names the paths of as many segments, each of which fits the pattern's segment at its place.
 abbrev pub Names : List ℕ → List ℕ → Type 0
 Names pattern path = AllZip Fits (segments pattern) (segments path)
+
+-- Some of the patterns names the path.
+abbrev pub IsNamed : List (List ℕ) → List ℕ → Type 0
+IsNamed patterns path = Any (λ pattern. Names pattern path) patterns

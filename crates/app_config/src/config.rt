@@ -4,6 +4,10 @@ ghost use Rattle.app_config.specs.Inflections.{IsLastFor, LacksBase};
 
 use lists::{Listed, Text};
 use std::alloc::Global;
+use thiserror::Error;
+
+/// The path of the configuration's file, below the application's folder.
+pub const CONFIGURATION_PATH: &str = "config/loader.conf";
 
 /// The bytes of a word or of a text.
 pub type ConfigText = Text;
@@ -47,25 +51,32 @@ pub struct Config {
 }
 
 /// Why a configuration isn't read: the line, counted from 1, and what is wrong with it. Want of memory has line 0.
-#[derive(Clone, Copy, Debug, PartialEq, Eq)]
+#[derive(Clone, Copy, Debug, PartialEq, Eq, Error)]
+#[error("line {line}: {kind}")]
 pub struct ConfigFault {
     pub line: u32,
     pub kind: ConfigKind,
 }
 
-#[derive(Clone, Copy, Debug, PartialEq, Eq)]
+#[derive(Clone, Copy, Debug, PartialEq, Eq, Error)]
 pub enum ConfigKind {
     /// The first word is none that begins a line, or there is no word.
+    #[error("begin the line with root, collapse, ignore, skip_eager, inflect or on_load, or with # for a comment")]
     UnknownWord,
     /// The line has too few words or too many.
+    #[error("give the line as many words as its first one asks for")]
     WordCount,
     /// A path or a pattern isn't below `app/` or `lib/`, or has an empty, `.` or `..` segment.
+    #[error("write a path below app/ or lib/, without empty, . or .. segments")]
     BadPath,
     /// A constant path or a constant isn't one.
+    #[error("write a constant as Name, and a constant path as Outer::Name")]
     BadName,
     /// The line isn't UTF-8.
+    #[error("save the line as UTF-8")]
     NotUtf8,
     /// Memory ran out.
+    #[error("out of memory, try again with more")]
     Memory,
 }
 

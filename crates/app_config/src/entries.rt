@@ -2,7 +2,7 @@ ghost use Rattle.std.specs.Prelude.{◌≡◌, IfOk};
 ghost use Rattle.std.specs.Str.{is_utf8};
 ghost use Rattle.app_config.specs.Entries as spec;
 ghost use Rattle.app_config.specs.Entries.{Says};
-ghost use Rattle.app_config.specs.Paths.{constant_names, path_text};
+ghost use Rattle.app_config.specs.Paths.{constant_names};
 ghost use Rattle.app_config.specs.Text.{words, behind_spaces, behind_word};
 
 use crate::config::{ConfigKind, ConfigText, ConfigTexts, LoadLine, RootLine};
@@ -65,8 +65,7 @@ fn directive_of(word: &[u8]) -> Option<Directive>
 }
 
 fn constant_path(alloc: Global, word: &[u8]) -> Result<ConfigTexts, ConfigKind>
-    ensures said { Says result (spec.constant_path word.now) }
-    ensures spelled { IfOk result (λ names. path_text names ≡ word.now) }
+    ensures { Says result (spec.constant_path word.now) }
 {
     if !is_constant_path(word) {
         return Err(ConfigKind::BadName);

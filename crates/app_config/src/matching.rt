@@ -1,5 +1,5 @@
 ghost use Rattle.std.specs.Prelude.{◌≡◌, option_copied};
-ghost use Rattle.app_config.specs.Matching as spec;
+ghost use Rattle.app_config.specs.Loops.Matching as spec;
 
 use crate::text::cut;
 

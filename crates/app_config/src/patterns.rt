@@ -1,5 +1,5 @@
 ghost use Rattle.std.specs.Prelude.{◌≡◌, ◌↔◌, IsTrue};
-ghost use Rattle.app_config.specs.Matching.{all_fit};
+ghost use Rattle.app_config.specs.Loops.Matching.{all_fit};
 ghost use Rattle.app_config.specs.Paths.{segments};
 ghost use Rattle.app_config.specs.Patterns.{Names};
 

@@ -1,20 +1,23 @@
-ghost use Rattle.std.specs.Prelude.{◌≡◌, ◌+◌, ◌∷◌, ◌==◌, [], length, IfNone, IfSome, MatchOption};
-ghost use Rattle.std.specs.List.{position_or_len, after_first};
+ghost use Rattle.std.specs.Prelude.{◌≡◌, ◌≢◌, ◌+◌, ◌∷◌, ◌++◌, ◌==◌, [], length, take, drop, All, IfNone, IfSome};
+ghost use Rattle.std.specs.Prelude.{MatchOption};
+ghost use Rattle.std.specs.List.{after_first, position};
 ghost use Rattle.app_config.specs.Text.{split, words, without_return, behind_spaces, behind_word};
 
-/// The place of the first `byte`, or the length where there is none.
-fn place_of(text: &[u8], byte: u8) -> usize
-    ensures { result ≡ position_or_len (λ b. b == byte) text.now }
+/// The place of the first `byte`.
+fn place_of(text: &[u8], byte: u8) -> Option<usize>
+    ensures position { result ≡ position (λ b. b == byte) text.now }
+    ensures none { IfNone result (All (λ b. b ≢ byte) text.now) }
+    ensures front { IfSome result (λ place. All (λ b. b ≢ byte) (take place text.now)) }
+    ensures found { IfSome result (λ place. text.now ≡ take place text.now ++ byte ∷ drop (place + 1) text.now) }
 {
-    let mut place = 0;
-    'bytes: while place < text.len() && text[place] != byte {
-        place += 1;
-    }
-    place
+    text.iter().position(|one| *one == byte)
 }
 
 /// What stands before the first `byte` of a text, and what stands behind it, where there is one.
-pub(crate) fn cut(text: &[u8], byte: u8) -> (&[u8], Option<&[u8]>)
+pub fn cut(text: &[u8], byte: u8) -> (&[u8], Option<&[u8]>)
+    ensures front { All (λ b. b ≢ byte) result.0.now }
+    ensures whole { MatchOption result.1 (text.now ≡ result.0.now)
+        (λ rest. text.now ≡ result.0.now ++ byte ∷ rest.now) }
     ensures parts { MatchOption result.1 (split byte text.now ≡ result.0.now ∷ [])
         (λ rest. split byte text.now ≡ result.0.now ∷ split byte rest.now) }
     ensures behind { MatchOption result.1 (after_first (λ b. b == byte) text.now ≡ [])
@@ -22,11 +25,9 @@ pub(crate) fn cut(text: &[u8], byte: u8) -> (&[u8], Option<&[u8]>)
     ensures length { MatchOption result.1 (length result.0.now ≡ length text.now)
         (λ rest. length result.0.now + length rest.now + 1 ≡ length text.now) }
 {
-    let place = place_of(text, byte);
-    if place < text.len() {
-        (&text[..place], Some(&text[place + 1..]))
-    } else {
-        (text, None)
+    match place_of(text, byte) {
+        None => (text, None),
+        Some(place) => (&text[..place], Some(&text[place + 1..])),
     }
 }
 

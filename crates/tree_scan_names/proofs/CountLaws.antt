@@ -8,7 +8,8 @@ use Rattle.std.proofs.lemmas.Bool.{ne_eqb}
 use Rattle.std.proofs.lemmas.List.Splits.{slice_split_none, slice_split_at}
 use Rattle.plain_text.specs.Segments.{slash, IsPiece, segments}
 use Rattle.app_config.specs.declared.config.Config.{Config}
-use Rattle.tree_scan_names.specs.Below.{within, IsNamed}
+use Rattle.app_config.specs.Patterns.{IsNamed}
+use Rattle.tree_scan_names.specs.Below.{within}
 use Rattle.tree_scan_names.specs.Counts.{BeginsWithDot, IsHidden, IsIgnored, IsPassed, IsPassedOver}
 use Rattle.tree_scan_names.proofs.WithinLaws.{within_within, no_slash, front_cases}
 

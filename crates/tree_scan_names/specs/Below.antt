@@ -1,8 +1,7 @@
 -- The names of a path below a root (Zeitwerk README, "File structure" and "Collapsing directories").
 use Rattle.std.specs.Prelude.{◌≡◌, ◌⊎◌, ℕ, List, [], ◌∷◌, ◌++◌}
-use Rattle.std.specs.List.{Any}
 use Rattle.plain_text.specs.Segments.{slash, IsPiece}
-use Rattle.app_config.specs.Patterns.{Names}
+use Rattle.app_config.specs.Patterns.{IsNamed}
 use Rattle.app_config.specs.declared.config.Config.{Config}
 use Rattle.tree_scan_names.specs.Camel.{IsCamelized}
 
@@ -17,10 +16,6 @@ EndsInRb path = (front : List ℕ) × (front ++ ruby_ending ≡ path)
 -- what stands in a directory has the directory's path, a slash and its own name
 abbrev pub within : List ℕ → List ℕ → List ℕ
 within directory name = directory ++ slash ∷ name
-
--- some of the patterns names the path
-abbrev pub IsNamed : List (List ℕ) → List ℕ → Type 0
-IsNamed patterns path = Any (λ pattern. Names pattern path) patterns
 
 -- a directory that adds no name
 abbrev pub IsCollapsed : Config → List ℕ → Type 0

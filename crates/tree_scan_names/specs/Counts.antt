@@ -5,7 +5,8 @@ use Rattle.std.specs.Prelude.{◌≡◌, ◌⊎◌, ℕ, List, ◌∷◌}
 use Rattle.std.specs.List.{Any}
 use Rattle.plain_text.specs.Segments.{segments}
 use Rattle.app_config.specs.declared.config.Config.{Config}
-use Rattle.tree_scan_names.specs.Below.{EndsInRb, IsNamed, within}
+use Rattle.app_config.specs.Patterns.{IsNamed}
+use Rattle.tree_scan_names.specs.Below.{EndsInRb, within}
 
 -- a name that begins with `.` (46)
 abbrev pub BeginsWithDot : List ℕ → Type 0

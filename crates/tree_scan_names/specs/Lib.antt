@@ -2,3 +2,4 @@ pub mod Camel
 pub mod Below
 pub mod Counts
 pub mod Spellings
+pub mod Rules

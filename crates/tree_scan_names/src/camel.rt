@@ -3,13 +3,13 @@ ghost use Rattle.std.specs.Char.{to_ascii_uppercase, to_ascii_lowercase};
 ghost use Rattle.tree_scan_names.specs.Camel as spec;
 ghost use Rattle.tree_scan_names.specs.Camel.{IsCamelized};
 
+use crate::rules::NamingRules;
 use app_config::Config;
 use lists::{Copying, Text};
 use std::alloc::{AllocError, Global};
 
 /// The constant name of a base name: that of the last `inflect` line for the base, else its pieces between `_`, each
-/// with
-/// its first byte in upper case and the rest in lower case, joined. `html_parser` is camelized to `HtmlParser`.
+/// with its first byte in upper case and the rest in lower case, joined. `html_parser` is camelized to `HtmlParser`.
 pub fn camelize(alloc: Global, base: &[u8], config: &Config) -> Result<Text, AllocError>
     ensures camelized { IfOk result (λ name. IsCamelized config.now base.now name) }
     ensures only { IfOk result (λ name. (other : List ℕ) → IsCamelized config.now base.now other → other ≡ name) }
@@ -20,6 +20,21 @@ pub fn camelize(alloc: Global, base: &[u8], config: &Config) -> Result<Text, All
     }
 }
 
+/// The constant name of a base name, as [`camelize`] gives it, by rules that are looked up.
+pub(crate) fn camelize_by(
+    alloc: Global,
+    base: &[u8],
+    rules: &NamingRules,
+) -> Result<Text, AllocError>
+    ensures { IfOk result (IsCamelized rules.now base.now) }
+{
+    match rules.inflection(base) {
+        Some(constant) => constant.copy(),
+        None => camelized(alloc, base),
+    }
+}
+
+/// The pieces of a base name between `_`, each with its first byte in upper case and the rest in lower case, joined.
 fn camelized(alloc: Global, base: &[u8]) -> Result<Text, AllocError>
     ensures { IfOk result (λ name. name ≡ spec.camelized base.now) }
 {

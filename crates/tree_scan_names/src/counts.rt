@@ -1,19 +1,9 @@
 ghost use Rattle.std.specs.Prelude.{◌≡◌, MatchBool};
-ghost use Rattle.tree_scan_names.specs.Below.{IsNamed, within};
+ghost use Rattle.tree_scan_names.specs.Below.{within};
 ghost use Rattle.tree_scan_names.specs.Counts.{BeginsWithDot, IsPassed, IsPassedOver};
 
+use crate::rules::NamingRules;
 use crate::steps::step_below;
-use app_config::{Config, Patterns, names};
-
-/// Whether some of the patterns names the path.
-pub(crate) fn is_named(patterns: &Patterns, path: &[u8]) -> bool
-    ensures { MatchBool result (IsNamed patterns.now path.now) (¬ IsNamed patterns.now path.now) }
-{
-    patterns
-        .as_slice()
-        .iter()
-        .any(|pattern| names(pattern.as_bytes(), path))
-}
 
 fn begins_with_dot(name: &[u8]) -> bool
     ensures { MatchBool result (BeginsWithDot name.now) (¬ BeginsWithDot name.now) }
@@ -25,16 +15,16 @@ fn begins_with_dot(name: &[u8]) -> bool
 }
 
 /// Whether a file is hidden or ignored, by the path of its root and what of its own path is below that.
-pub(crate) fn is_passed_over(config: &Config, path: &[u8], root: &[u8], below: &[u8]) -> bool
+pub(crate) fn is_passed_over(rules: &NamingRules, path: &[u8], root: &[u8], below: &[u8]) -> bool
     requires { path.now ≡ within root.now below.now }
-    ensures { MatchBool result (IsPassedOver config.now root.now below.now)
-        (¬ IsPassedOver config.now root.now below.now) }
+    ensures { MatchBool result (IsPassedOver rules.now root.now below.now)
+        (¬ IsPassedOver rules.now root.now below.now) }
 {
     let mut directory = root;
     let mut left = below;
     'steps: loop {
         let step = step_below(path, directory, left);
-        if is_passed(config, step.name, step.place) {
+        if is_passed(rules, step.name, step.place) {
             return true;
         }
         let Some(rest) = step.below else {
@@ -46,8 +36,8 @@ pub(crate) fn is_passed_over(config: &Config, path: &[u8], root: &[u8], below: &
 }
 
 /// Whether a file or directory of this name and path is hidden or ignored by itself.
-fn is_passed(config: &Config, name: &[u8], place: &[u8]) -> bool
-    ensures { MatchBool result (IsPassed config.now name.now place.now) (¬ IsPassed config.now name.now place.now) }
+fn is_passed(rules: &NamingRules, name: &[u8], place: &[u8]) -> bool
+    ensures { MatchBool result (IsPassed rules.now name.now place.now) (¬ IsPassed rules.now name.now place.now) }
 {
-    begins_with_dot(name) || is_named(&config.ignore, place)
+    begins_with_dot(name) || rules.ignores(place)
 }

@@ -4,8 +4,9 @@ ghost use Rattle.app_config.specs.Paths.{is_constant};
 ghost use Rattle.tree_scan_names.specs.Below.{EndsInRb, SpellsBelow, AddsDirectory, within};
 ghost use Rattle.tree_scan_names.specs.Spellings.{above, behind, IsSpelling};
 
-use crate::camel::camelize;
-use crate::counts::{is_named, is_passed_over};
+use crate::camel::camelize_by;
+use crate::counts::is_passed_over;
+use crate::rules::NamingRules;
 use crate::steps::{around, step_below};
 use app_config::{Config, is_constant};
 use ruby_types::{Text, TextList};
@@ -26,22 +27,22 @@ pub enum Spelling {
 /// The names of directories come from the outermost on, then the file's own; namespaces of roots are not among them.
 pub fn names_below(
     alloc: Global,
-    config: &Config,
+    rules: &NamingRules,
     path: &[u8],
     root_length: usize,
 ) -> Result<Spelling, AllocError>
     requires inside { root_length < length path.now }
     requires slash { slice_index path.now root_length ≡ 47 }
     ensures spelled { IfOk result
-        (λ spelling. IsSpelling config.now (above path.now root_length) (behind path.now root_length) spelling) }
+        (λ spelling. IsSpelling rules.now (above path.now root_length) (behind path.now root_length) spelling) }
     ensures only { IfOk result (λ spelling. (other : Spelling) →
-        IsSpelling config.now (above path.now root_length) (behind path.now root_length) other → other ≡ spelling) }
+        IsSpelling rules.now (above path.now root_length) (behind path.now root_length) other → other ≡ spelling) }
 {
     let (root, below) = around(path, root_length);
-    if is_passed_over(config, path, root, below) {
+    if is_passed_over(rules, path, root, below) {
         return Ok(Spelling::Nothing);
     }
-    match spelled_names(alloc, config, path, root, below)? {
+    match spelled_names(alloc, rules, path, root, below)? {
         None => Ok(Spelling::Nothing),
         Some(names) => Ok(judged(names)),
     }
@@ -74,14 +75,14 @@ fn judged(names: TextList) -> Spelling
 /// The names that a path spells, constant names or not; none where it doesn't end in `.rb`.
 fn spelled_names(
     alloc: Global,
-    config: &Config,
+    rules: &NamingRules,
     path: &[u8],
     root: &[u8],
     below: &[u8],
 ) -> Result<Option<TextList>, AllocError>
     requires { path.now ≡ within root.now below.now }
     ensures { IfOk result (λ found. MatchOption found (¬ EndsInRb below.now)
-        (λ names. SpellsBelow config.now root.now below.now names)) }
+        (λ names. SpellsBelow rules.now root.now below.now names)) }
 {
     let mut names = TextList::new(alloc);
     let mut directory = root;
@@ -92,10 +93,10 @@ fn spelled_names(
             let Some(base) = step.name.strip_suffix(b".rb".as_slice()) else {
                 return Ok(None);
             };
-            names.push(camelize(alloc, base, config)?)?;
+            names.push(camelize_by(alloc, base, rules)?)?;
             return Ok(Some(names));
         };
-        add_directory(alloc, config, step.place, step.name, &mut names)?;
+        add_directory(alloc, rules, step.place, step.name, &mut names)?;
         directory = step.place;
         left = rest;
     }
@@ -104,15 +105,15 @@ fn spelled_names(
 /// Adds the name of a directory that isn't collapsed.
 fn add_directory(
     alloc: Global,
-    config: &Config,
+    rules: &NamingRules,
     place: &[u8],
     name: &[u8],
     names: &mut TextList,
 ) -> Result<(), AllocError>
-    ensures { OnOk result (AddsDirectory config.now place.now name.now names.old names.new) }
+    ensures { OnOk result (AddsDirectory rules.now place.now name.now names.old names.new) }
 {
-    if !is_named(&config.collapse, place) {
-        names.push(camelize(alloc, name, config)?)?;
+    if !rules.collapses(place) {
+        names.push(camelize_by(alloc, name, rules)?)?;
     }
     Ok(())
 }

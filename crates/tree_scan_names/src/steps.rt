@@ -3,6 +3,8 @@ ghost use Rattle.plain_text.specs.Segments.{IsPiece};
 ghost use Rattle.tree_scan_names.specs.Below.{within};
 ghost use Rattle.tree_scan_names.specs.Spellings as whole;
 
+use app_config::cut;
+
 /// What stands before the slash at a place of a path, and what stands behind it.
 pub(crate) fn around(path: &[u8], slash: usize) -> (&[u8], &[u8])
     requires inside { slash < length path.now }
@@ -30,22 +32,11 @@ pub(crate) fn step_below<'a>(path: &'a [u8], directory: &[u8], below: &'a [u8]) 
     ensures parts { MatchOption result.below (below.now ≡ result.name.now)
         (λ rest. below.now ≡ within result.name.now rest.now) }
 {
-    let (name, rest) = cut(below);
+    let (name, rest) = cut(below, b'/');
     let place = &path[..directory.len() + 1 + name.len()];
     Step {
         name,
         place,
         below: rest,
-    }
-}
-
-/// What stands before the first slash, and what stands behind it, where there is one.
-fn cut(below: &[u8]) -> (&[u8], Option<&[u8]>)
-    ensures piece { IsPiece result.0.now }
-    ensures parts { MatchOption result.1 (below.now ≡ result.0.now) (λ rest. below.now ≡ within result.0.now rest.now) }
-{
-    match below.iter().position(|byte| *byte == b'/') {
-        None => (below, None),
-        Some(end) => (&below[..end], Some(&below[end + 1..])),
     }
 }

@@ -1,5 +1,5 @@
 use Rattle.std.proofs.Common.{◌≡◌, length}
-use Rattle.app_config.specs.Matching.{behind_first}
+use Rattle.app_config.specs.Loops.Matching.{behind_first}
 use Rattle.app_config.proofs.matching.behind_first.Given as goal
 
 abbrev pub invariant-places : goal.invariant-places

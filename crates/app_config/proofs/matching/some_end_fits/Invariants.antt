@@ -1,5 +1,5 @@
 use Rattle.std.proofs.Common.{◌≡◌, length}
-use Rattle.app_config.specs.Matching.{some_end_fits}
+use Rattle.app_config.specs.Loops.Matching.{some_end_fits}
 use Rattle.app_config.proofs.matching.some_end_fits.Given as goal
 
 abbrev pub invariant-stars : goal.invariant-stars

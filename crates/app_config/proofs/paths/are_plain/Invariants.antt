@@ -1,6 +1,6 @@
 use Rattle.std.proofs.Common.{◌≡◌}
 use Rattle.std.specs.List.{list_all}
-use Rattle.app_config.specs.Left.{parts_left, size_left}
+use Rattle.app_config.specs.Loops.Left.{parts_left, size_left}
 use Rattle.app_config.specs.Paths.{is_plain, are_plain}
 use Rattle.app_config.proofs.paths.are_plain.Given as goal
 

@@ -1,5 +1,5 @@
 use Rattle.std.proofs.Common.{◌≡◌, length}
-use Rattle.app_config.specs.Matching.{all_fit}
+use Rattle.app_config.specs.Loops.Matching.{all_fit}
 use Rattle.app_config.specs.Paths.{segments}
 use Rattle.app_config.proofs.patterns.segments_fit.Given as goal
 

@@ -1,5 +1,5 @@
 use Rattle.std.proofs.Common.{◌≡◌, ◌+◌, Some, ap, arith}
-use Rattle.app_config.specs.Left.{size_left}
+use Rattle.app_config.specs.Loops.Left.{size_left}
 use Rattle.app_config.proofs.ReadLaws.{lines_left-step, size_left-step, config-step, faults-step, faults-first}
 use Rattle.app_config.proofs.reading.read.Goals as goal
 

@@ -1,5 +1,5 @@
 use Rattle.std.proofs.Common.{◌≡◌, ◌≤◌, ◌+◌, length, map}
-use Rattle.app_config.specs.Left.{parts_left, size_left}
+use Rattle.app_config.specs.Loops.Left.{parts_left, size_left}
 use Rattle.app_config.specs.Text.{without_return}
 use Rattle.app_config.specs.Configuration.{collected, entries, configuration, faults_from, faults}
 use Rattle.app_config.proofs.ReadLaws.{joined}

@@ -5,7 +5,7 @@ use Rattle.tree_scan_names.proofs.counts.is_passed_over.Goals as goal
 pub returns-then-is_passed : goal.returns-then-is_passed
 returns-then-is_passed c =
     let step = c.step_below-step in
-    c.steps.invariant.back (passed-found c.args.config.now c.steps.directory.now step.result.name.now
+    c.steps.invariant.back (passed-found c.args.rules.now c.steps.directory.now step.result.name.now
     c.steps.left.now step.result.place.now step.result.below
     step.ensures.piece step.ensures.parts step.ensures.place c.if-is_passed.ensures)
 
@@ -13,7 +13,7 @@ pub returns-in_default : goal.returns-in_default
 returns-in_default c =
     let step = c.step_below-step in
     let whole = rw c.in_default.is at step.ensures.parts in
-    λ h. passed-end c.args.config.now c.steps.directory.now step.result.name.now c.steps.left.now step.result.place.now
+    λ h. passed-end c.args.rules.now c.steps.directory.now step.result.name.now c.steps.left.now step.result.place.now
     step.ensures.piece whole step.ensures.place c.if-is_passed.ensures (c.steps.invariant.on h)
 
 pub steps-preserved : goal.steps-preserved
@@ -24,9 +24,9 @@ steps-preserved c =
       way = way_step c.args.path.now c.steps.directory.now c.steps.left.now step.result.name.now
           step.result.place.now c.in-Some.rest.now c.steps.invariant.way cut step.ensures.place;
       back = λ h. c.steps.invariant.back
-          (passed-inside c.args.config.now c.steps.directory.now step.result.name.now c.in-Some.rest.now
+          (passed-inside c.args.rules.now c.steps.directory.now step.result.name.now c.in-Some.rest.now
           c.steps.left.now step.result.place.now step.ensures.piece cut step.ensures.place h);
-      on = λ h. passed-next c.args.config.now c.steps.directory.now step.result.name.now c.in-Some.rest.now
+      on = λ h. passed-next c.args.rules.now c.steps.directory.now step.result.name.now c.in-Some.rest.now
           c.steps.left.now step.result.place.now step.ensures.piece cut step.ensures.place c.if-is_passed.ensures
           (c.steps.invariant.on h);
     }

@@ -5,8 +5,8 @@ use Rattle.tree_scan_names.proofs.spelling.spelled_names.Given as goal
 abbrev pub invariant-steps : goal.invariant-steps
 invariant-steps l = record {
   way : l.path ≡ within l.directory l.left;
-  spells : (more : List (List ℕ)) → SpellsBelow l.config l.directory l.left more →
-      SpellsBelow l.config l.root l.below (l.names ++ more);
+  spells : (more : List (List ℕ)) → SpellsBelow l.rules l.directory l.left more →
+      SpellsBelow l.rules l.root l.below (l.names ++ more);
   ends : EndsInRb l.below → EndsInRb l.left;
 }
 
