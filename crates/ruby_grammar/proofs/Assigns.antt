@@ -14,6 +14,7 @@ use Rattle.ruby_grammar.specs.Signs.{is_open_paren, is_open_brace, is_not, is_mi
 use Rattle.ruby_grammar.specs.Signs.{is_false, is_self, is_return, is_raise}
 use Rattle.ruby_grammar.specs.Rules.{ruby, Sort, Rule, Around, file, definitions, more_definitions, definition}
 use Rattle.ruby_grammar.specs.Rules.{path_rest, parent, constant, heading, parameter_list, parameters, more_parameters}
+use Rattle.ruby_grammar.specs.Rules.{opened_path}
 use Rattle.ruby_grammar.specs.Rules.{more_readers, statements, more_statements, statement, simple_statement}
 use Rattle.ruby_grammar.specs.Rules.{condition_behind, then_or_line, perhaps_line, arms_rest, perhaps_expression}
 use Rattle.ruby_grammar.specs.Rules.{expression, choice_rest, operators, more_operators, unary, postfix, more_postfix}
@@ -163,18 +164,39 @@ clean_forms (primary here) h = (
                         (each_opening (λ p. Avoids no_assign p) here.levels (e.array_from here)
                         (λ n. λ w t. (
                           unless_sign 89 is_open_bracket is_assign w (sign_is 89 w) (λ e. rw e refl) t,
-                          (refl, λ y. λ w t. (unless_sign 89 is_close_bracket is_assign w (sign_is 89 w) (λ e. rw e refl) t, tt)),
+                          (
+                            refl,
+                            λ y. λ w t. (
+                              unless_sign 89 is_close_bracket is_assign w (sign_is 89 w)
+                                  (λ e. rw e refl) t,
+                              tt,
+                            ),
+                          ),
                         )))
                         (each_append (λ p. Avoids no_assign p) (e.opening here.levels (e.hash_from here)) _
                         (each_opening (λ p. Avoids no_assign p) here.levels (e.hash_from here)
                         (λ n. λ w t. (
                           unless_sign 89 is_open_brace is_assign w (sign_is 89 w) (λ e. rw e refl) t,
-                          (refl, λ y. λ w t. (unless_sign 89 is_close_brace is_assign w (sign_is 89 w) (λ e. rw e refl) t, tt)),
+                          (
+                            refl,
+                            λ y. λ w t. (
+                              unless_sign 89 is_close_brace is_assign w (sign_is 89 w)
+                                  (λ e. rw e refl) t,
+                              tt,
+                            ),
+                          ),
                         )))
                         (each_opening (λ p. Avoids no_assign p) here.levels (e.group_from here)
                         (λ n. λ w t. (
                           unless_sign 89 is_open_paren is_assign w (sign_is 89 w) (λ e. rw e refl) t,
-                          (refl, λ y. λ w t. (unless_sign 89 is_close_paren is_assign w (sign_is 89 w) (λ e. rw e refl) t, tt)),
+                          (
+                            refl,
+                            λ y. λ w t. (
+                              unless_sign 89 is_close_paren is_assign w (sign_is 89 w)
+                                  (λ e. rw e refl) t,
+                              tt,
+                            ),
+                          ),
                         )))),
                   ),
                 ),
@@ -255,9 +277,10 @@ clean_forms (file levels anywhere) h = cc
 clean_forms (definitions here ds) h = cc
 clean_forms (more_definitions here ds) h = cc
 clean_forms (definition here) h = cc
+clean_forms (opened_path more how names) h = cc
 clean_forms (parent path at) h = cc
-clean_forms heading h = cc
-clean_forms (parameter_list levels m) h = cc
+clean_forms (heading path) h = cc
+clean_forms (parameter_list levels) h = cc
 clean_forms parameters h = cc
 clean_forms (more_parameters names) h = cc
 clean_forms (more_readers path names) h = cc

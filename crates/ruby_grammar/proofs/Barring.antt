@@ -14,12 +14,14 @@ use Rattle.ruby_grammar.specs.Signs.{units, products, sums, comparisons, equalit
 use Rattle.ruby_grammar.specs.Signs.{is_variable, is_ivar, is_assign, is_return, is_raise, is_path}
 use Rattle.ruby_grammar.specs.Rules.{ruby, Val, Name, Sort, Rule, Around, Scope, a_statement, some_names, file}
 use Rattle.ruby_grammar.specs.Rules.{definitions, more_definitions, definition, path_rest, parent, constant, heading}
+use Rattle.ruby_grammar.specs.Rules.{PathOpening, opened_path}
 use Rattle.ruby_grammar.specs.Rules.{parameter_list, parameters, more_parameters, more_readers, statements}
 use Rattle.ruby_grammar.specs.Rules.{more_statements, statement, simple_statement, condition_behind, then_or_line}
 use Rattle.ruby_grammar.specs.Rules.{perhaps_line, arms_rest, perhaps_expression, expression, choice_rest, operators}
 use Rattle.ruby_grammar.specs.Rules.{more_operators, unary, postfix, more_postfix, primary, name_rest}
 use Rattle.ruby_grammar.specs.Rules.{perhaps_arguments, members, more_members, pairs, more_pairs, pair, text_parts}
 use Rattle.ruby_grammar.specs.Language.{forms, ruby_grammar}
+use Rattle.ruby_grammar.specs.Definitions as d
 use Rattle.ruby_grammar.specs.Choices.{next_is, pick, ruby_choices, pick_set_ivar}
 use Rattle.ruby_grammar.specs.Follow.{looks, begins_plain}
 use Rattle.ruby_grammar.specs.Expressions as e
@@ -129,10 +131,11 @@ bars (definitions here ds) w b h = absurd (barred_is (definitions here ds) (Some
 bars (more_definitions here ds) w b h = absurd (barred_is (more_definitions here ds) (Some w) b h)
 bars (definition here) w b h = absurd (barred_is (definition here) (Some w) b h)
 bars (path_rest more ending names) w b h = absurd (barred_is (path_rest more ending names) (Some w) b h)
+bars (opened_path more how names) w b h = absurd (barred_is (opened_path more how names) (Some w) b h)
 bars (parent path at) w b h = absurd (barred_is (parent path at) (Some w) b h)
 bars (constant ending) w b h = absurd (barred_is (constant ending) (Some w) b h)
-bars heading w b h = absurd (barred_is heading (Some w) b h)
-bars (parameter_list levels m) w b h = absurd (barred_is (parameter_list levels m) (Some w) b h)
+bars (heading path) w b h = absurd (barred_is (heading path) (Some w) b h)
+bars (parameter_list levels) w b h = absurd (barred_is (parameter_list levels) (Some w) b h)
 bars parameters w b h = absurd (barred_is parameters (Some w) b h)
 bars (more_parameters names) w b h = absurd (barred_is (more_parameters names) (Some w) b h)
 bars (more_readers path names) w b h = absurd (barred_is (more_readers path names) (Some w) b h)
@@ -194,10 +197,11 @@ one_word_stops (definitions here ds) w b h = cc
 one_word_stops (more_definitions here ds) w b h = cc
 one_word_stops (definition here) w b h = cc
 one_word_stops (path_rest more ending names) w b h = cc
+one_word_stops (opened_path more how names) w b h = cc
 one_word_stops (parent path at) w b h = cc
 one_word_stops (constant ending) w b h = cc
-one_word_stops heading w b h = cc
-one_word_stops (parameter_list levels m) w b h = cc
+one_word_stops (heading path) w b h = cc
+one_word_stops (parameter_list levels) w b h = cc
 one_word_stops parameters w b h = cc
 one_word_stops (more_parameters names) w b h = cc
 one_word_stops (more_readers path names) w b h = cc
@@ -226,7 +230,7 @@ one_word_stops (more_pairs here ps) w b h = cc
 one_word_stops (pair here) w b h = cc
 one_word_stops (text_parts here double parts) w b h = cc
 
--- ---- the end of a parent's path
+-- ---- the end of a path that counts
 
 token_first : (test : Word → Bool) (next : Word → Prod ruby some_names) (us ts : List (Item ruby)) (x : List Name)
     (m : Mark) → Is ruby_grammar some_names (token test next) us x → us ≡ marked m ∷ ts → ⊥
@@ -256,6 +260,26 @@ path_marked : (m : Mark) (names : List Name) (ws : List Word) →
 path_marked m names [] = inl refl
 path_marked m names (w ∷ ws) = path_ready m names w ws (is_path w) refl
 
+opened_goes_on : (how : PathOpening) (names : List Name) (w : Word) → is_path w ≡ true →
+    BeginsWith ruby_grammar (opened_path true how names) w
+opened_goes_on how names w h = (
+  word const_word ∷ marked _ ∷ [],
+  _,
+  alone ruby_grammar first (is_word h (is_word refl (alone ruby_grammar (later first) (is_marked is_given)))),
+)
+
+opened_ready : (how : PathOpening) (names : List Name) (w : Word) (ws : List Word) (b : Bool) → is_path w ≡ b →
+    (choose ruby_choices (opened_path true how names) (w ∷ ws) ≡ take (d.opened_path_end how names))
+    ⊎ CanBegin ruby_grammar (opened_path true how names) (w ∷ ws)
+opened_ready how names w ws true h = inr (opened_goes_on how names w h)
+opened_ready how names w ws false h = inl (rw h refl)
+
+opened_marked : (how : PathOpening) (names : List Name) (ws : List Word) →
+    (choose ruby_choices (opened_path true how names) ws ≡ take (d.opened_path_end how names))
+    ⊎ CanBegin ruby_grammar (opened_path true how names) ws
+opened_marked how names [] = inl refl
+opened_marked how names (w ∷ ws) = opened_ready how names w ws (is_path w) refl
+
 pub marked_rule : {t : Sort} (rule : Rule t) (p : Prod ruby t) (m : Mark) (ts : List (Item ruby)) (x : Val t) →
     Among p (forms rule) → begins_plain rule ≡ false → Is ruby_grammar t p (marked m ∷ ts) x →
     (ts ≡ []) × ((ws : List Word) → (choose ruby_choices rule ws ≡ take p) ⊎ CanBegin ruby_grammar rule ws)
@@ -267,14 +291,21 @@ marked_rule (path_rest true (Some n) names) p m ts v (later (later am)) h a = el
 marked_rule (path_rest false (Some n) names) p m ts v (later am) h a = elim am [ ]
 marked_rule (path_rest true None names) p m ts v am h a = cc
 marked_rule (path_rest false None names) p m ts v am h a = cc
+marked_rule (opened_path true how names) p m ts x first h a = absurd (token_first _ _ _ ts x m a refl)
+marked_rule (opened_path true how names) p m ts x (later first) h a =
+    (mark_alone (d.opens how names) m names x _ ts a refl, opened_marked how names)
+marked_rule (opened_path false how names) p m ts x first h a =
+    (mark_alone (d.opens how names) m names x _ ts a refl, λ ws. inl refl)
+marked_rule (opened_path true how names) p m ts v (later (later am)) h a = elim am [ ]
+marked_rule (opened_path false how names) p m ts v (later am) h a = elim am [ ]
 marked_rule (file levels anywhere) p m ts v am h a = cc
 marked_rule (definitions here ds) p m ts v am h a = cc
 marked_rule (more_definitions here ds) p m ts v am h a = cc
 marked_rule (definition here) p m ts v am h a = cc
 marked_rule (parent path at) p m ts v am h a = cc
 marked_rule (constant ending) p m ts v am h a = cc
-marked_rule heading p m ts v am h a = cc
-marked_rule (parameter_list levels n) p m ts v am h a = cc
+marked_rule (heading path) p m ts v am h a = cc
+marked_rule (parameter_list levels) p m ts v am h a = cc
 marked_rule parameters p m ts v am h a = cc
 marked_rule (more_parameters names) p m ts v am h a = cc
 marked_rule (more_readers path names) p m ts v am h a = cc

@@ -9,6 +9,7 @@ use Rattle.ruby_grammar.specs.Marks.{Mark}
 use Rattle.ruby_grammar.specs.Signs.{Level, units, products, sums, comparisons, equalities, conjunctions, disjunctions}
 use Rattle.ruby_grammar.specs.Rules.{ruby, Sort, Rule, Name, Body, Around, Scope, Block, file, definitions}
 use Rattle.ruby_grammar.specs.Rules.{more_definitions, definition, path_rest, parent, constant, heading, parameter_list}
+use Rattle.ruby_grammar.specs.Rules.{opened_path}
 use Rattle.ruby_grammar.specs.Rules.{parameters, more_parameters, more_readers, statements, more_statements, statement}
 use Rattle.ruby_grammar.specs.Rules.{simple_statement, condition_behind, then_or_line, perhaps_line, arms_rest}
 use Rattle.ruby_grammar.specs.Rules.{perhaps_expression, expression, choice_rest, operators, more_operators, unary}
@@ -46,10 +47,11 @@ beside m (definitions here ds) = definitions (body_with m here) ds
 beside m (more_definitions here ds) = more_definitions (body_with m here) ds
 beside m (definition here) = definition (body_with m here)
 beside m (path_rest more ending names) = path_rest more ending names
+beside m (opened_path more how names) = opened_path more how names
 beside m (parent path at) = parent path at
 beside m (constant ending) = constant ending
-beside m heading = heading
-beside m (parameter_list levels n) = parameter_list (levels_with m levels) n
+beside m (heading path) = heading path
+beside m (parameter_list levels) = parameter_list (levels_with m levels)
 beside m parameters = parameters
 beside m (more_parameters names) = more_parameters names
 beside m (more_readers path names) = more_readers path names
@@ -99,7 +101,7 @@ Same m {t} p q = Up (ruby_lift m) t p q
 pub module_same : (m : More) (here : Body) (n : ℕ) →
     Same m (d.module_from here n) (d.module_from (body_with m here) (levels_with m n))
 module_same m here n = up_token λ w t. up_token λ v u. up_call λ path. up_token λ v u.
-    up_mark (up_call λ ds. up_token λ v u. up_give)
+    up_call λ ds. up_token λ v u. up_give
 
 pub class_same : (m : More) (here : Body) (n : ℕ) →
     Same m (d.class_from here n) (d.class_from (body_with m here) (levels_with m n))

@@ -21,6 +21,7 @@ use Rattle.ruby_grammar.specs.Signs.{is_int, is_text_open, is_text_piece, is_ins
 use Rattle.ruby_grammar.specs.Signs.{is_true, is_false}
 use Rattle.ruby_grammar.specs.Rules.{ruby, Val, Sort, Rule, Path, Body, Around, Scope, Block, a_tree, a_def}
 use Rattle.ruby_grammar.specs.Rules.{a_statement, file, definitions, more_definitions, definition, path_rest, parent}
+use Rattle.ruby_grammar.specs.Rules.{opened_path}
 use Rattle.ruby_grammar.specs.Rules.{constant, heading, parameter_list, parameters, more_parameters, more_readers}
 use Rattle.ruby_grammar.specs.Rules.{statements, more_statements, statement, simple_statement, condition_behind}
 use Rattle.ruby_grammar.specs.Rules.{then_or_line, perhaps_line, arms_rest, perhaps_expression, expression, choice_rest}
@@ -345,6 +346,15 @@ picked_forms evaluates _ (path_rest true (Some m) names) = (
   ),
 )
 picked_forms evaluates _ (path_rest false (Some m) names) = (co (path_rest false (Some m) names) _ (λ a b. refl), tt)
+picked_forms evaluates _ (opened_path true how names) = (
+  ct (opened_path true how names) is_path _ (λ w b t. rw t refl),
+  (
+    cm (opened_path true how names) (d.opens how names) names
+        (other (opened_path true how names) (d.opened_path_end how names) is_path (λ b. refl) (λ w b h. rw h refl)),
+    tt,
+  ),
+)
+picked_forms evaluates _ (opened_path false how names) = (co (opened_path false how names) _ (λ a b. refl), tt)
 picked_forms evaluates _ (parent path at) = (
   ct (parent path at) is_less _ (λ w b t. rw (sign_is 75 w t) refl),
   (ct (parent path at) is_line _ (λ w b t. rw (sign_is 50 w t) refl), tt),
@@ -353,15 +363,15 @@ picked_forms evaluates _ (constant ending) = (
   ct (constant ending) is_path _ (λ w b t. rw (sign_is 86 w t) refl),
   (ct (constant ending) is_const _ (λ w b t. rw (sign_is 51 w t) refl), tt),
 )
-picked_forms evaluates _ heading = (
-  ct (heading) is_self _ (λ w b t. rw (sign_is 11 w t) refl),
-  (ct (heading) is_name _ (λ w b t. rw (sign_is 0 w t) refl), tt),
+picked_forms evaluates _ (heading path) = (
+  ct (heading path) is_self _ (λ w b t. rw (sign_is 11 w t) refl),
+  (ct (heading path) is_name _ (λ w b t. rw (sign_is 0 w t) refl), tt),
 )
-picked_forms evaluates _ (parameter_list levels m) = (
-  ct (parameter_list levels m) is_line _ (λ w b t. rw (sign_is 50 w t) refl),
-  each_level (Picked (parameter_list levels m)) levels (d.parameters_from m)
-      (λ n q. ct (parameter_list levels m) is_open_paren _
-      (λ w b t. rw (sign_is 91 w t) (deepen_is levels n (d.parameters_from m) q))),
+picked_forms evaluates _ (parameter_list levels) = (
+  ct (parameter_list levels) is_line _ (λ w b t. rw (sign_is 50 w t) refl),
+  each_level (Picked (parameter_list levels)) levels d.parameters_from
+      (λ n q. ct (parameter_list levels) is_open_paren _
+      (λ w b t. rw (sign_is 91 w t) (deepen_is levels n d.parameters_from q))),
 )
 picked_forms evaluates _ parameters = (
   ct (parameters) is_variable _ (λ w b t. rw t refl),

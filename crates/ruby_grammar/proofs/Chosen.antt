@@ -15,12 +15,14 @@ use Rattle.ruby_grammar.specs.Signs.{is_def, is_include, is_attr_reader, is_vari
 use Rattle.ruby_grammar.specs.Signs.{is_if, is_unless, is_elsif, is_else, is_end, is_then}
 use Rattle.ruby_grammar.specs.Rules.{ruby, Sort, Rule, Name, Body, Around, Scope, Block, file, definitions}
 use Rattle.ruby_grammar.specs.Rules.{more_definitions, definition, path_rest, parent, constant, heading, parameter_list}
+use Rattle.ruby_grammar.specs.Rules.{PathOpening, opened_path}
 use Rattle.ruby_grammar.specs.Rules.{parameters, more_parameters, more_readers, statements, more_statements, statement}
 use Rattle.ruby_grammar.specs.Rules.{simple_statement, condition_behind, then_or_line, perhaps_line, arms_rest}
 use Rattle.ruby_grammar.specs.Rules.{perhaps_expression, expression, choice_rest, operators, more_operators, unary}
 use Rattle.ruby_grammar.specs.Rules.{postfix, more_postfix, primary, name_rest, perhaps_arguments, members}
 use Rattle.ruby_grammar.specs.Rules.{more_members, pairs, more_pairs, pair, text_parts}
 use Rattle.ruby_grammar.specs.Language.{forms}
+use Rattle.ruby_grammar.specs.Choices.{pick_opened_path}
 use Rattle.ruby_grammar.specs.Choices.{next_is, pick, starts_expression, starts_statement, starts_pair}
 use Rattle.ruby_grammar.specs.Choices.{starts_definition, pick_member, pick_path_rest, pick_set_ivar, pick_elsif}
 use Rattle.ruby_grammar.specs.Choices.{pick_branch, pick_more_operators}
@@ -33,6 +35,11 @@ path_fine : (more : Bool) (ending : Option Mark) (names : List Name) (a : Option
     Fine ⊥ (e.path_rest_forms more ending names) (pick_path_rest more ending names a)
 path_fine true ending names a = fine_if ⊥ _ (next_is is_path a) _ _ first (later first)
 path_fine false ending names a = first
+
+opened_fine : (more : Bool) (how : PathOpening) (names : List Name) (a : Option Word) →
+    Fine ⊥ (d.opened_path_forms more how names) (pick_opened_path more how names a)
+opened_fine true how names a = fine_if ⊥ _ (next_is is_path a) _ _ first (later first)
+opened_fine false how names a = first
 
 member_fine : (top : Bool) (here : Body) (a : Option Word) →
     Fine ⊥ (d.top_forms here ++ d.member_forms top here) (pick_member top here a)
@@ -160,13 +167,15 @@ fine (definitions here ds) a b = fine_if ⊥ _ (next_is (starts_definition here.
 fine (more_definitions here ds) a b = fine_if ⊥ _ (next_is is_line a) _ _ first (later first)
 fine (definition here) a b = definition_fine here a
 fine (path_rest more ending names) a b = path_fine more ending names a
+fine (opened_path more how names) a b = opened_fine more how names a
 fine (parent path at) a b = fine_if ⊥ _ (next_is is_less a) _ _ first
     (fine_if ⊥ _ (next_is is_line a) _ _ (later first) tt)
 fine (constant ending) a b = fine_if ⊥ _ (next_is is_path a) _ _ first
     (fine_if ⊥ _ (next_is is_const a) _ _ (later first) tt)
-fine heading a b = fine_if ⊥ _ (next_is is_self a) _ _ first (fine_if ⊥ _ (next_is is_name a) _ _ (later first) tt)
-fine (parameter_list levels m) a b = fine_if ⊥ _ (next_is is_line a) _ _ first
-    (fine_if ⊥ _ (next_is is_open_paren a) _ _ (fine_deepen ⊥ _ levels (d.parameters_from m) (λ p am. later am)) tt)
+fine (heading path) a b = fine_if ⊥ _ (next_is is_self a) _ _ first
+    (fine_if ⊥ _ (next_is is_name a) _ _ (later first) tt)
+fine (parameter_list levels) a b = fine_if ⊥ _ (next_is is_line a) _ _ first
+    (fine_if ⊥ _ (next_is is_open_paren a) _ _ (fine_deepen ⊥ _ levels d.parameters_from (λ p am. later am)) tt)
 fine parameters a b = fine_if ⊥ _ (next_is is_variable a) _ _ first (later first)
 fine (more_parameters names) a b = fine_if ⊥ _ (next_is is_comma a) _ _ first (later first)
 fine (more_readers path names) a b = fine_if ⊥ _ (next_is is_comma a) _ _ first (later first)

@@ -10,6 +10,7 @@ use Rattle.ruby_grammar.specs.Marks.{Mark}
 use Rattle.ruby_grammar.specs.Signs.{Level, units, products, sums, comparisons, equalities, conjunctions, disjunctions}
 use Rattle.ruby_grammar.specs.Rules.{ruby, Val, Name, Known, Sort, Rule, Body, Around, Scope, file, definitions}
 use Rattle.ruby_grammar.specs.Rules.{more_definitions, definition, path_rest, parent, constant, heading, parameter_list}
+use Rattle.ruby_grammar.specs.Rules.{PathOpening, opened_path}
 use Rattle.ruby_grammar.specs.Rules.{parameters, more_parameters, more_readers, statements, more_statements, statement}
 use Rattle.ruby_grammar.specs.Rules.{simple_statement, condition_behind, then_or_line, perhaps_line, arms_rest}
 use Rattle.ruby_grammar.specs.Rules.{perhaps_expression, expression, choice_rest, operators, more_operators, unary}
@@ -129,6 +130,10 @@ path_end false None names = nothing_said (path_rest false None names) names firs
 path_end true (Some m) names = (marked m ∷ [], names, alone ruby_grammar (later first) (is_marked is_given))
 path_end false (Some m) names = (marked m ∷ [], names, alone ruby_grammar first (is_marked is_given))
 
+opened_end : (more : Bool) (how : PathOpening) (names : List Name) → End (opened_path more how names)
+opened_end true how names = (marked _ ∷ [], names, alone ruby_grammar (later first) (is_marked is_given))
+opened_end false how names = (marked _ ∷ [], names, alone ruby_grammar first (is_marked is_given))
+
 simple_end : (here : Around) → End (simple_statement here)
 simple_end here =
     let a = expression_end (s.scope_of here) in (
@@ -184,12 +189,16 @@ ends_rule (definitions here ds) = nothing_said (definitions here ds) ds (later f
 ends_rule (more_definitions here ds) = nothing_said (more_definitions here ds) ds (later first)
 ends_rule (definition here) = definition_end here
 ends_rule (path_rest more ending names) = path_end more ending names
-ends_rule (parent path at) =
-    (word line_word ∷ marked _ ∷ [], None, alone ruby_grammar (later first) (is_word refl (is_marked is_given)))
+ends_rule (opened_path more how names) = opened_end more how names
+ends_rule (parent path at) = (word line_word ∷ [], None, alone ruby_grammar (later first) (is_word refl is_given))
 ends_rule (constant ending) = constant_end ending
-ends_rule heading = (word (a_word k.Name (120 ∷ [])) ∷ [], _, alone ruby_grammar (later first) (is_word refl is_given))
-ends_rule (parameter_list levels m) =
-    (word line_word ∷ marked m ∷ [], [], alone ruby_grammar first (is_word refl (is_marked is_given)))
+ends_rule (heading path) = (
+  word (a_word k.Name (120 ∷ [])) ∷ marked _ ∷ [],
+  _,
+  alone ruby_grammar (later first) (is_word refl (is_marked is_given)),
+)
+ends_rule (parameter_list levels) =
+    (word line_word ∷ [], [], alone ruby_grammar first (is_word refl is_given))
 ends_rule parameters = nothing_said parameters [] (later first)
 ends_rule (more_parameters names) = nothing_said (more_parameters names) names (later first)
 ends_rule (more_readers path names) = nothing_said (more_readers path names) names (later first)

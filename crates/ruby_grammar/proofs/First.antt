@@ -12,6 +12,7 @@ use Rattle.ruby_grammar.specs.Signs.{is_unless, is_int, is_text_open, is_sym, is
 use Rattle.ruby_grammar.specs.Signs.{is_open_bracket, is_open_brace, is_not, is_minus}
 use Rattle.ruby_grammar.specs.Rules.{ruby, Sort, Rule, Body, Around, Scope, Block, file, definitions, more_definitions}
 use Rattle.ruby_grammar.specs.Rules.{definition, path_rest, parent, constant, heading, parameter_list, parameters}
+use Rattle.ruby_grammar.specs.Rules.{opened_path}
 use Rattle.ruby_grammar.specs.Rules.{more_parameters, more_readers, statements, more_statements, statement}
 use Rattle.ruby_grammar.specs.Rules.{simple_statement, condition_behind, then_or_line, perhaps_line, arms_rest}
 use Rattle.ruby_grammar.specs.Rules.{perhaps_expression, expression, choice_rest, operators, more_operators, unary}
@@ -39,8 +40,8 @@ abbrev pub first_of_rule : {t : Sort} → Rule t → Word → Bool
 first_of_rule (definition here) = starts_definition here.path
 first_of_rule (parent path at) = λ w. is_less w || is_line w
 first_of_rule (constant ending) = λ w. is_path w || is_const w
-first_of_rule heading = λ w. is_self w || is_name w
-first_of_rule (parameter_list levels m) = λ w. is_line w || is_open_paren w
+first_of_rule (heading path) = λ w. is_self w || is_name w
+first_of_rule (parameter_list levels) = λ w. is_line w || is_open_paren w
 first_of_rule (statement here) = starts_statement
 first_of_rule (simple_statement here) = starts_simple
 first_of_rule then_or_line = λ w. is_then w || is_line w
@@ -57,8 +58,8 @@ abbrev pub is_solid : {t : Sort} → Rule t → Bool
 is_solid (definition here) = true
 is_solid (parent path at) = true
 is_solid (constant ending) = true
-is_solid heading = true
-is_solid (parameter_list levels m) = true
+is_solid (heading path) = true
+is_solid (parameter_list levels) = true
 is_solid (statement here) = true
 is_solid (simple_statement here) = true
 is_solid then_or_line = true
@@ -243,10 +244,10 @@ all_rule : {t : Sort} (rule : Rule t) → is_solid rule ≡ true → All (first_
 all_rule (definition here) h = definition_all here
 all_rule (parent path at) h = (λ w t. rw (sign_is 75 w t) refl, (λ w t. rw (sign_is 50 w t) refl, tt))
 all_rule (constant ending) h = (λ w t. rw (sign_is 86 w t) refl, (λ w t. rw (sign_is 51 w t) refl, tt))
-all_rule heading h = (λ w t. rw (sign_is 11 w t) refl, (λ w t. rw (sign_is 0 w t) refl, tt))
-all_rule (parameter_list levels m) h = (
+all_rule (heading path) h = (λ w t. rw (sign_is 11 w t) refl, (λ w t. rw (sign_is 0 w t) refl, tt))
+all_rule (parameter_list levels) h = (
   λ w t. rw (sign_is 50 w t) refl,
-  by_opening (λ w. is_line w || is_open_paren w) levels (d.parameters_from m)
+  by_opening (λ w. is_line w || is_open_paren w) levels d.parameters_from
       (λ n w t. rw (sign_is 91 w t) refl),
 )
 all_rule (statement here) h = statement_all here
@@ -265,6 +266,7 @@ all_rule (file levels anywhere) h = cc
 all_rule (definitions here ds) h = cc
 all_rule (more_definitions here ds) h = cc
 all_rule (path_rest more ending names) h = cc
+all_rule (opened_path more how names) h = cc
 all_rule parameters h = cc
 all_rule (more_parameters names) h = cc
 all_rule (more_readers path names) h = cc

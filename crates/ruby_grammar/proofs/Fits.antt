@@ -16,10 +16,12 @@ use Rattle.ruby_grammar.specs.Signs.{tighter, repeats, sign, is_operator, is_end
 use Rattle.ruby_grammar.specs.Signs.{is_then, is_line, is_ask, is_path, is_dot, is_comma, is_close_paren}
 use Rattle.ruby_grammar.specs.Signs.{is_close_bracket, is_close_brace, is_text_close, is_tight_paren, is_tight_bracket}
 use Rattle.ruby_grammar.specs.Signs.{is_open_bracket, is_colon, is_arrow, is_inside_close, is_less}
+use Rattle.ruby_grammar.specs.Marks.{opens_module, opens_class}
 use Rattle.ruby_grammar.specs.Rules.{ruby, Val, Name, Sort, Rule, Body, Around, Scope, Block, a_tree, some_defs, a_def}
 use Rattle.ruby_grammar.specs.Rules.{some_names, a_parent, a_constant, a_block, a_statement, an_expression}
 use Rattle.ruby_grammar.specs.Rules.{perhaps_an_expression, some_expressions, some_pairs, a_pair, some_parts, no_value}
 use Rattle.ruby_grammar.specs.Rules.{file, definitions, more_definitions, definition, path_rest, parent, constant}
+use Rattle.ruby_grammar.specs.Rules.{PathOpening, opened_path}
 use Rattle.ruby_grammar.specs.Rules.{heading, parameter_list, parameters, more_parameters, more_readers, statements}
 use Rattle.ruby_grammar.specs.Rules.{more_statements, statement, simple_statement, condition_behind, then_or_line}
 use Rattle.ruby_grammar.specs.Rules.{perhaps_line, arms_rest, perhaps_expression, expression, choice_rest, operators}
@@ -188,10 +190,10 @@ primary_paren a h = first_none is_tight_paren is_path a h
 primary_path : Imp (none_is goes_on_primary) (none_is is_path)
 primary_path a h = weaker is_tight_paren is_path a h
 
-path_fits : (top : Bool) (names : List Name) (w : Word) → is_path w ≡ false →
-    fits (path_rest top None names) (Some w) ≡ true
-path_fits true names w h = rw h refl
-path_fits false names w h = refl
+opened_fits : (top : Bool) (how : PathOpening) (names : List Name) (w : Word) → is_path w ≡ false →
+    fits (opened_path top how names) (Some w) ≡ true
+opened_fits true how names w h = rw h refl
+opened_fits false how names w h = refl
 
 pub or_second : (a b : Bool) → b ≡ true → (a || b) ≡ true
 or_second true b h = refl
@@ -413,6 +415,9 @@ follows_forms (more_definitions here ds) = (
 follows_forms (path_rest true ending names) = path_follows ending names
 follows_forms (path_rest false None names) = (tt, tt)
 follows_forms (path_rest false (Some m) names) = (tt, tt)
+follows_forms (opened_path true how names) =
+    (λ w t w2 t2. λ z. (tt, tt, gv some_names (none_is is_path) (none_is is_path) _ (λ a h. h)), (tt, tt))
+follows_forms (opened_path false how names) = (tt, tt)
 follows_forms (parent path at) = (
   λ w t c. (
     λ w2 t2. tt,
@@ -426,14 +431,14 @@ follows_forms (constant ending) = (
   λ w t w2 t2. λ y. (tt, tt, gv a_constant (fits (constant ending)) (none_is is_path) _ (λ a h. h)),
   (λ w t. λ y. (tt, tt, gv a_constant (fits (constant ending)) (none_is is_path) _ (λ a h. h)), tt),
 )
-follows_forms heading = (λ w t w2 t2 w3 t3. tt, (λ w t. tt, tt))
-follows_forms (parameter_list levels m) = (
+follows_forms (heading path) = (λ w t w2 t2 w3 t3. tt, (λ w t. tt, tt))
+follows_forms (parameter_list levels) = (
   λ w t. tt,
-  each_opening (λ p. Follows ruby_grammar ruby_follow (fits (parameter_list levels m)) p) levels
-      (d.parameters_from m) (λ n w t y. (
+  each_opening (λ p. Follows ruby_grammar ruby_follow (fits (parameter_list levels)) p) levels
+      d.parameters_from (λ n w t y. (
         λ w2 t2 w3 t3. tt,
         tt,
-        tk some_names (fits (parameter_list levels m)) (next_is is_close_paren) is_close_paren _
+        tk some_names (fits (parameter_list levels)) (next_is is_close_paren) is_close_paren _
             (λ v u. u),
       )),
 )
@@ -791,7 +796,8 @@ follows_forms (primary here) = (
                     λ y. (tt, tt, gv an_expression (none_is goes_on_primary) (none_is is_path) _ (primary_path)),
                     each_append (λ p. Follows ruby_grammar ruby_follow (none_is goes_on_primary) p)
                         (e.opening here.levels (e.array_from here)) _
-                        (each_opening (λ p. Follows ruby_grammar ruby_follow (none_is goes_on_primary) p) here.levels (e.array_from here)
+                        (each_opening (λ p. Follows ruby_grammar ruby_follow (none_is goes_on_primary) p) here.levels
+                        (e.array_from here)
                         (λ n. λ w t y. (
                           λ w2 t2. tt,
                           tt,
@@ -800,14 +806,16 @@ follows_forms (primary here) = (
                         )))
                         (each_append (λ p. Follows ruby_grammar ruby_follow (none_is goes_on_primary) p)
                         (e.opening here.levels (e.hash_from here)) _
-                        (each_opening (λ p. Follows ruby_grammar ruby_follow (none_is goes_on_primary) p) here.levels (e.hash_from here)
+                        (each_opening (λ p. Follows ruby_grammar ruby_follow (none_is goes_on_primary) p) here.levels
+                        (e.hash_from here)
                         (λ n. λ w t y. (
                           λ w2 t2. tt,
                           tt,
                           tk an_expression (none_is goes_on_primary)
                               (next_is is_close_brace) is_close_brace _ (λ v u. rw (sign_is 96 v u) refl),
                         )))
-                        (each_opening (λ p. Follows ruby_grammar ruby_follow (none_is goes_on_primary) p) here.levels (e.group_from here)
+                        (each_opening (λ p. Follows ruby_grammar ruby_follow (none_is goes_on_primary) p) here.levels
+                        (e.group_from here)
                         (λ n. λ w t y. (
                           λ w2 t2. tt,
                           tt,
@@ -924,8 +932,8 @@ follows_forms (definition here) =
             ),
             tt,
             tk a_def (ends_or (λ w. is_line w || is_end w))
-                (fits (path_rest (d.at_top here.path) None (w2.text ∷ []))) is_line _
-                (λ v u. path_fits (d.at_top here.path) (w2.text ∷ []) v (rw (sign_is 50 v u) refl)),
+                (fits (d.opened_from here opens_module w2)) is_line _
+                (λ v u. opened_fits (d.at_top here.path) _ (w2.text ∷ []) v (rw (sign_is 50 v u) refl)),
           )))
           (each_opening (λ p. Follows ruby_grammar ruby_follow (ends_or (λ w. is_line w || is_end w)) p) here.levels
           (d.class_from here) (λ n. λ w t w2 t2 path. (
@@ -940,9 +948,9 @@ follows_forms (definition here) =
               λ ts x rest a h. refl,
             ),
             (refl, λ p. (refl, λ ds. tt)),
-            rl a_def (ends_or (λ w. is_line w || is_end w)) (fits (path_rest (d.at_top here.path) None (w2.text ∷ [])))
+            rl a_def (ends_or (λ w. is_line w || is_end w)) (fits (d.opened_from here opens_class w2))
                 (parent (here.path ++ path) w2.at) _ refl
-                (λ v u. path_fits (d.at_top here.path) (w2.text ∷ []) v
+                (λ v u. opened_fits (d.at_top here.path) _ (w2.text ∷ []) v
                 (either (is_less v) (is_line v) u (λ z. rw (sign_is 75 v z) refl) (λ z. rw (sign_is 50 v z) refl))),
           ))),
     )

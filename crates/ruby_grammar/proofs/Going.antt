@@ -14,6 +14,7 @@ use Rattle.ruby_grammar.specs.Signs.{Level, units, products, sums, comparisons, 
 use Rattle.ruby_grammar.specs.Signs.{is_new_parameter, has, ends_in_suffix}
 use Rattle.ruby_grammar.specs.Rules.{ruby, Sort, Rule, Body, Around, Scope, Block, file, definitions, more_definitions}
 use Rattle.ruby_grammar.specs.Rules.{definition, path_rest, parent, constant, heading, parameter_list, parameters}
+use Rattle.ruby_grammar.specs.Rules.{opened_path}
 use Rattle.ruby_grammar.specs.Rules.{more_parameters, more_readers, statements, more_statements, statement}
 use Rattle.ruby_grammar.specs.Rules.{simple_statement, condition_behind, then_or_line, perhaps_line, arms_rest}
 use Rattle.ruby_grammar.specs.Rules.{perhaps_expression, expression, choice_rest, operators, more_operators, unary}
@@ -169,6 +170,9 @@ goes_forms (path_rest true (Some m) names) =
     (((an_op op.Path, refl), λ w t. ((a_word k.Const [], refl), λ w t. λ y. tt)), (tt, tt))
 goes_forms (path_rest false None names) = (tt, tt)
 goes_forms (path_rest false (Some m) names) = (tt, tt)
+goes_forms (opened_path true how names) =
+    (((an_op op.Path, refl), λ w t. ((a_word k.Const [], refl), λ w t. λ y. tt)), (tt, tt))
+goes_forms (opened_path false how names) = (tt, tt)
 goes_forms (parent path at) = (
   ((an_op op.Less, refl), λ w t. λ x. ((a_word k.Line [], refl), λ w t. tt)),
   (((a_word k.Line [], refl), λ w t. tt), tt),
@@ -177,7 +181,7 @@ goes_forms (constant ending) = (
   ((an_op op.Path, refl), λ w t. ((a_word k.Const [], refl), λ w t. λ y. tt)),
   (((a_word k.Const [], refl), λ w t. λ y. tt), tt),
 )
-goes_forms heading = (
+goes_forms (heading path) = (
   (
     (a_word k.Name (codes "self"), refl),
     λ w t.
@@ -185,9 +189,9 @@ goes_forms heading = (
   ),
   (((a_word k.Name (codes "x"), refl), λ w t. tt), tt),
 )
-goes_forms (parameter_list levels m) = (
+goes_forms (parameter_list levels) = (
   ((a_word k.Line [], refl), λ w t. tt),
-  opened_goes levels (d.parameters_from m)
+  opened_goes levels d.parameters_from
       (λ n. (
         (an_op op.OpenParen, refl),
         λ w t. λ x.

@@ -6,6 +6,7 @@ use Rattle.descent.specs.Lawful.{Lawful, left}
 use Rattle.ruby_grammar.specs.Words.{Word}
 use Rattle.ruby_grammar.specs.Marks.{Mark}
 use Rattle.ruby_grammar.specs.Rules.{ruby, Val, Sort, Rule, file, definitions, more_definitions, definition, path_rest}
+use Rattle.ruby_grammar.specs.Rules.{opened_path}
 use Rattle.ruby_grammar.specs.Rules.{parent, constant, heading, parameter_list, parameters, more_parameters}
 use Rattle.ruby_grammar.specs.Rules.{more_readers, statements, more_statements, statement, simple_statement}
 use Rattle.ruby_grammar.specs.Rules.{condition_behind, then_or_line, perhaps_line, arms_rest, perhaps_expression}
@@ -36,10 +37,11 @@ passes_rule (definitions here ds) w ws q ms out h e r = cc
 passes_rule (more_definitions here ds) w ws q ms out h e r = cc
 passes_rule (definition here) w ws q ms out h e r = cc
 passes_rule (path_rest more ending names) w ws q ms out h e r = cc
+passes_rule (opened_path more how names) w ws q ms out h e r = cc
 passes_rule (parent path at) w ws q ms out h e r = cc
 passes_rule (constant ending) w ws q ms out h e r = cc
-passes_rule heading w ws q ms out h e r = cc
-passes_rule (parameter_list levels m) w ws q ms out h e r = cc
+passes_rule (heading path) w ws q ms out h e r = cc
+passes_rule (parameter_list levels) w ws q ms out h e r = cc
 passes_rule parameters w ws q ms out h e r = cc
 passes_rule (more_parameters names) w ws q ms out h e r = cc
 passes_rule (more_readers path names) w ws q ms out h e r = cc

@@ -10,6 +10,7 @@ use Rattle.ruby_grammar.specs.Signs.{is_operator, is_name, is_open_paren, is_ope
 use Rattle.ruby_grammar.specs.Signs.{is_tight_bracket, is_variable}
 use Rattle.ruby_grammar.specs.Rules.{ruby, Sort, Rule, Name, Body, Block, file, definitions, more_definitions}
 use Rattle.ruby_grammar.specs.Rules.{definition, path_rest, parent, constant, heading, parameter_list, parameters}
+use Rattle.ruby_grammar.specs.Rules.{opened_path}
 use Rattle.ruby_grammar.specs.Rules.{more_parameters, more_readers, statements, more_statements, statement}
 use Rattle.ruby_grammar.specs.Rules.{simple_statement, condition_behind, then_or_line, perhaps_line, arms_rest}
 use Rattle.ruby_grammar.specs.Rules.{perhaps_expression, expression, choice_rest, operators, more_operators, unary}
@@ -121,6 +122,9 @@ all_in (path_rest false None names) = (tt, tt)
 all_in (path_rest true (Some m) names) =
     ((λ w t. (inside 86 refl w t, (λ w t. (inside 51 refl w t, (refl, λ y. tt))))), (tt, tt))
 all_in (path_rest false (Some m) names) = (tt, tt)
+all_in (opened_path true how names) =
+    ((λ w t. (inside 86 refl w t, (λ w t. (inside 51 refl w t, (refl, λ y. tt))))), (tt, tt))
+all_in (opened_path false how names) = (tt, tt)
 all_in (parent path at) = (
   (λ w t. (inside 75 refl w t, (refl, λ y. (λ w t. (inside 50 refl w t, tt))))),
   ((λ w t. (inside 50 refl w t, tt)), tt),
@@ -129,14 +133,17 @@ all_in (constant ending) = (
   (λ w t. (inside 86 refl w t, (λ w t. (inside 51 refl w t, (refl, λ y. tt))))),
   ((λ w t. (inside 51 refl w t, (refl, λ y. tt))), tt),
 )
-all_in heading = (
+all_in (heading path) = (
   (λ w t. (inside 11 refl w t, (λ w t. (inside 87 refl w t, (λ w t. (inside 0 refl w t, tt)))))),
   ((λ w t. (inside 0 refl w t, tt)), tt),
 )
-all_in (parameter_list levels m) = (
+all_in (parameter_list levels) = (
   (λ w t. (inside 50 refl w t, tt)),
-  each_opening (λ p. Avoids left_out p) levels (d.parameters_from m)
-      (λ n. (λ w t. (inside 91 refl w t, (refl, λ y. (λ w t. (inside 92 refl w t, (λ w t. (inside 50 refl w t, tt)))))))),
+  each_opening (λ p. Avoids left_out p) levels d.parameters_from
+      (λ n. (λ w t. (
+        inside 91 refl w t,
+        (refl, λ y. (λ w t. (inside 92 refl w t, (λ w t. (inside 50 refl w t, tt))))),
+      ))),
 )
 all_in parameters = ((λ w t. (variable_inside w t, (refl, λ y. tt))), (tt, tt))
 all_in (more_parameters names) = ((λ w t. (inside 88 refl w t, (λ w t. (new_inside _ w t, (refl, λ y. tt))))), (tt, tt))

@@ -8,6 +8,7 @@ use Rattle.ruby_grammar.specs.Words.{Word}
 use Rattle.ruby_grammar.specs.Signs.{Level, units, products, sums, comparisons, equalities, conjunctions, disjunctions}
 use Rattle.ruby_grammar.specs.Rules.{ruby, Sort, Rule, Body, Around, Scope, Block, file, definitions, more_definitions}
 use Rattle.ruby_grammar.specs.Rules.{definition, path_rest, parent, constant, heading, parameter_list, parameters}
+use Rattle.ruby_grammar.specs.Rules.{opened_path}
 use Rattle.ruby_grammar.specs.Rules.{more_parameters, more_readers, statements, more_statements, statement}
 use Rattle.ruby_grammar.specs.Rules.{simple_statement, condition_behind, then_or_line, perhaps_line, arms_rest}
 use Rattle.ruby_grammar.specs.Rules.{perhaps_expression, expression, choice_rest, operators, more_operators, unary}
@@ -139,13 +140,14 @@ plain_forms (more_pairs here xs) h = (tt, (tt, tt))
 plain_forms (pair here) h = (tt, ((refl, λ x. tt), tt))
 plain_forms (text_parts here double parts) h =
     (tt, opening_plain here.levels (e.inside_from here double parts) _ (λ n. tt) ((tt, tt)))
-plain_forms heading h = (tt, (tt, tt))
+plain_forms (heading path) h = (tt, (tt, tt))
 plain_forms parameters h = (tt, (tt, tt))
 plain_forms (more_parameters names) h = (tt, (tt, tt))
 plain_forms (path_rest true None names) h = (tt, (tt, tt))
 plain_forms (path_rest false None names) h = (tt, tt)
 plain_forms (path_rest true (Some m) names) h = cc
 plain_forms (path_rest false (Some m) names) h = cc
+plain_forms (opened_path more how names) h = cc
 plain_forms (constant ending) h = (tt, (tt, tt))
 plain_forms (parent path at) h = (tt, (tt, tt))
 plain_forms (more_readers path names) h = (tt, (tt, tt))
@@ -157,7 +159,7 @@ plain_forms (definition here) h = each_append (λ p. Plain ruby_follow p) (d.top
   opening_plain here.levels (d.module_from here) _ (λ n. tt)
       (opened_plain here.levels (d.class_from here) (λ n. tt)),
 ) (member_plain (d.at_top here.path) here)
-plain_forms (parameter_list levels m) h = (tt, opened_plain levels (d.parameters_from m) (λ n. tt))
+plain_forms (parameter_list levels) h = (tt, opened_plain levels d.parameters_from (λ n. tt))
 
 pub plain_rule : {t : Sort} (rule : Rule t) (p : Prod ruby t) → Among p (forms rule) → begins_plain rule ≡ true →
     Plain ruby_follow p
@@ -297,13 +299,14 @@ quiet_forms (text_parts here double parts) h = (
   opening_quiet here.levels (e.inside_from here double parts) _
       (λ n. λ w0 t0. (refl, λ y w1 t1. (refl, λ z. tt))) ((tt, tt)),
 )
-quiet_forms heading h = (λ w0 t0 w1 t1 w2 t2. tt, (λ w0 t0. tt, tt))
+quiet_forms (heading path) h = cc
 quiet_forms parameters h = (λ w0 t0. (refl, λ y. tt), (tt, tt))
 quiet_forms (more_parameters names) h = (λ w0 t0 w1 t1. (refl, λ y. tt), (tt, tt))
 quiet_forms (path_rest true None names) h = (λ w0 t0 w1 t1. (refl, λ y. tt), (tt, tt))
 quiet_forms (path_rest false None names) h = (tt, tt)
 quiet_forms (path_rest true (Some m) names) h = cc
 quiet_forms (path_rest false (Some m) names) h = cc
+quiet_forms (opened_path more how names) h = cc
 quiet_forms (constant None) h = (λ w0 t0 w1 t1. (refl, λ y. tt), (λ w0 t0. (refl, λ y. tt), tt))
 quiet_forms (constant (Some m)) h = cc
 quiet_forms (file levels anywhere) h = cc
@@ -311,7 +314,8 @@ quiet_forms (definitions here ds) h = cc
 quiet_forms (more_definitions here ds) h = cc
 quiet_forms (definition here) h = cc
 quiet_forms (parent path at) h = cc
-quiet_forms (parameter_list levels m) h = cc
+quiet_forms (parameter_list levels) h =
+    (λ w0 t0. tt, opened_quiet levels d.parameters_from (λ n. λ w0 t0. (refl, λ y w1 t1 w2 t2. tt)))
 quiet_forms (more_readers path names) h = cc
 
 pub quiet_rule : {t : Sort} (rule : Rule t) (p : Prod ruby t) → Among p (forms rule) → is_quiet rule ≡ true →
@@ -326,10 +330,11 @@ looks_quiet (definitions here ds) a h = cc
 looks_quiet (more_definitions here ds) a h = cc
 looks_quiet (definition here) a h = cc
 looks_quiet (path_rest more ending names) a h = cc
+looks_quiet (opened_path more how names) a h = cc
 looks_quiet (parent path at) a h = cc
 looks_quiet (constant ending) a h = cc
-looks_quiet heading a h = cc
-looks_quiet (parameter_list levels m) a h = cc
+looks_quiet (heading path) a h = cc
+looks_quiet (parameter_list levels) a h = cc
 looks_quiet parameters a h = cc
 looks_quiet (more_parameters names) a h = cc
 looks_quiet (more_readers path names) a h = cc

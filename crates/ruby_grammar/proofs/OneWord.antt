@@ -3,6 +3,7 @@ use Rattle.std.proofs.Common.{◌≡◌, false, Option, Some, None, refl}
 use Rattle.ruby_grammar.specs.Words.{Word}
 use Rattle.ruby_grammar.specs.Signs.{is_variable, is_ivar}
 use Rattle.ruby_grammar.specs.Rules.{Sort, Rule, Around, file, definitions, more_definitions, definition, path_rest}
+use Rattle.ruby_grammar.specs.Rules.{opened_path}
 use Rattle.ruby_grammar.specs.Rules.{parent, constant, heading, parameter_list, parameters, more_parameters}
 use Rattle.ruby_grammar.specs.Rules.{more_readers, statements, more_statements, statement, simple_statement}
 use Rattle.ruby_grammar.specs.Rules.{condition_behind, then_or_line, perhaps_line, arms_rest, perhaps_expression}
@@ -25,10 +26,11 @@ one_word (definitions here ds) a b c h = refl
 one_word (more_definitions here ds) a b c h = refl
 one_word (definition here) a b c h = refl
 one_word (path_rest more ending names) a b c h = refl
+one_word (opened_path more how names) a b c h = refl
 one_word (parent path at) a b c h = refl
 one_word (constant ending) a b c h = refl
-one_word heading a b c h = refl
-one_word (parameter_list levels m) a b c h = refl
+one_word (heading path) a b c h = refl
+one_word (parameter_list levels) a b c h = refl
 one_word parameters a b c h = refl
 one_word (more_parameters names) a b c h = refl
 one_word (more_readers path names) a b c h = refl

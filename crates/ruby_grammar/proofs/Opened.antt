@@ -18,6 +18,7 @@ use Rattle.ruby_grammar.specs.Signs.{is_def, is_include, is_attr_reader, is_vari
 use Rattle.ruby_grammar.specs.Signs.{is_if, is_unless, is_elsif, is_else, is_end, is_then}
 use Rattle.ruby_grammar.specs.Rules.{ruby, Sort, Rule, Name, Body, Around, Scope, Block, a_statement, an_expression}
 use Rattle.ruby_grammar.specs.Rules.{file, definitions, more_definitions, definition, path_rest, parent, constant}
+use Rattle.ruby_grammar.specs.Rules.{PathOpening, opened_path}
 use Rattle.ruby_grammar.specs.Rules.{heading, parameter_list, parameters, more_parameters, more_readers, statements}
 use Rattle.ruby_grammar.specs.Rules.{more_statements, statement, simple_statement, condition_behind, then_or_line}
 use Rattle.ruby_grammar.specs.Rules.{perhaps_line, arms_rest, perhaps_expression, expression, choice_rest, operators}
@@ -30,6 +31,7 @@ use Rattle.ruby_grammar.specs.Definitions as d
 use Rattle.descent.specs.Lawful.{BeginsWith}
 use Rattle.descent.proofs.Complete.{alone, has_end}
 use Rattle.ruby_grammar.specs.Rules.{Val}
+use Rattle.ruby_grammar.specs.Choices.{pick_opened_path}
 use Rattle.ruby_grammar.specs.Choices.{next_is, pick, deepen, ruby_choices, starts_expression, starts_statement}
 use Rattle.ruby_grammar.specs.Choices.{starts_pair, starts_definition, pick_member, pick_path_rest, pick_set_ivar}
 use Rattle.ruby_grammar.specs.Choices.{pick_elsif, pick_branch, pick_more_operators}
@@ -93,6 +95,11 @@ path_opened true (Some m) names a = op_if (path_rest true (Some m) names) a (nex
 path_opened false None names a = tt
 path_opened false (Some m) names a = tt
 
+opened_opened : (more : Bool) (how : PathOpening) (names : List Name) (a : Option Word) →
+    Opened (opened_path more how names) a (pick_opened_path more how names a)
+opened_opened true how names a = op_if (opened_path true how names) a (next_is is_path a) _ _ tt tt
+opened_opened false how names a = tt
+
 set_opened : (sets : Bool) (here : Around) (a : Option Word) (r : Rule a_statement) →
     Opened r a (pick_set_ivar sets here)
 set_opened true here a r = tt
@@ -143,13 +150,14 @@ opened (parent path at) a b = op_if (beside a_level (parent path at)) a (next_is
     (op_if (beside a_level (parent path at)) a (next_is is_line a) _ _ tt tt)
 opened (constant ending) a b = op_if (beside a_level (constant ending)) a (next_is is_path a) _ _ tt
     (op_if (beside a_level (constant ending)) a (next_is is_const a) _ _ tt tt)
-opened heading a b = op_if (beside a_level (heading)) a (next_is is_self a) _ _ tt
-    (op_if (beside a_level (heading)) a (next_is is_name a) _ _ tt tt)
+opened (heading path) a b = op_if (beside a_level (heading path)) a (next_is is_self a) _ _ tt
+    (op_if (beside a_level (heading path)) a (next_is is_name a) _ _ tt tt)
 opened (condition_behind levels t) a b = op_if (beside a_level (condition_behind levels t)) a
     (next_is is_if a) _ _ tt (op_if (beside a_level (condition_behind levels t)) a (next_is is_unless a) _ _ tt tt)
 opened then_or_line a b = op_if (beside a_level (then_or_line)) a (next_is is_then a) _ _ tt
     (op_if (beside a_level (then_or_line)) a (next_is is_line a) _ _ tt tt)
 opened (path_rest more ending names) a b = path_opened more ending names a
+opened (opened_path more how names) a b = opened_opened more how names a
 opened (arms_rest levels sets may_elsif arms c) a b =
     op_if (beside a_level (arms_rest levels sets may_elsif arms c)) a (next_is is_end a) _ _ tt
     (branch_opened c.closed levels sets may_elsif arms c a _)
@@ -163,10 +171,10 @@ opened (definition here) a b =
     (op_deepen r a is_module here.levels (d.module_from here) _ (begins r is_module _ (later first))
     (op_deepen r a is_class here.levels (d.class_from here) _ (begins r is_class _ (later (later first)))
     (member_opened (d.at_top here.path) here a refl)))
-opened (parameter_list levels n) a b =
-    let r = parameter_list (suc levels) n in
+opened (parameter_list levels) a b =
+    let r = parameter_list (suc levels) in
     op_if r a (next_is is_line a) _ _ tt
-    (op_deepen r a is_open_paren levels (d.parameters_from n) _ (begins r is_open_paren _ (later first)) tt)
+    (op_deepen r a is_open_paren levels d.parameters_from _ (begins r is_open_paren _ (later first)) tt)
 opened (statement here) a b =
     let r = statement (around_with a_level here) in
     op_deepen r a is_if here.levels (s.if_from here) _ (begins r is_if _ (later first))
@@ -258,10 +266,11 @@ unbarred (definitions here ds) a b h = absurd (barred_is (definitions here ds) a
 unbarred (more_definitions here ds) a b h = absurd (barred_is (more_definitions here ds) a b h)
 unbarred (definition here) a b h = absurd (barred_is (definition here) a b h)
 unbarred (path_rest more ending names) a b h = absurd (barred_is (path_rest more ending names) a b h)
+unbarred (opened_path more how names) a b h = absurd (barred_is (opened_path more how names) a b h)
 unbarred (parent path at) a b h = absurd (barred_is (parent path at) a b h)
 unbarred (constant ending) a b h = absurd (barred_is (constant ending) a b h)
-unbarred heading a b h = absurd (barred_is heading a b h)
-unbarred (parameter_list levels n) a b h = absurd (barred_is (parameter_list levels n) a b h)
+unbarred (heading path) a b h = absurd (barred_is (heading path) a b h)
+unbarred (parameter_list levels) a b h = absurd (barred_is (parameter_list levels) a b h)
 unbarred parameters a b h = absurd (barred_is parameters a b h)
 unbarred (more_parameters names) a b h = absurd (barred_is (more_parameters names) a b h)
 unbarred (more_readers path names) a b h = absurd (barred_is (more_readers path names) a b h)

@@ -10,6 +10,7 @@ use Rattle.ruby_grammar.specs.Signs.{Level, units, products, sums, comparisons, 
 use Rattle.ruby_grammar.specs.Rules.{ruby, Sort, Rule, Name, Body, Around, Scope, Block, a_def, a_statement}
 use Rattle.ruby_grammar.specs.Rules.{an_expression, some_names, file, definitions, more_definitions, definition}
 use Rattle.ruby_grammar.specs.Rules.{path_rest, parent, constant, heading, parameter_list, parameters, more_parameters}
+use Rattle.ruby_grammar.specs.Rules.{PathOpening, opened_path}
 use Rattle.ruby_grammar.specs.Rules.{more_readers, statements, more_statements, statement, simple_statement}
 use Rattle.ruby_grammar.specs.Rules.{condition_behind, then_or_line, perhaps_line, arms_rest, perhaps_expression}
 use Rattle.ruby_grammar.specs.Rules.{expression, choice_rest, operators, more_operators, unary, postfix, more_postfix}
@@ -79,6 +80,12 @@ path_within m true ending names = both (up_token λ w t. up_token λ v u. up_cal
     (both (end_same m ending names) none)
 path_within m false ending names = both (end_same m ending names) none
 
+opened_within : (m : More) (more : Bool) (how : PathOpening) (names : List Name) →
+    Within m some_names (d.opened_path_forms more how names) (d.opened_path_forms more how names)
+opened_within m true how names = both (up_token λ w t. up_token λ v u. up_call λ y. up_give)
+    (both (up_mark up_give) none)
+opened_within m false how names = both (up_mark up_give) none
+
 elsif_within : (m : More) (may_elsif : Bool) (levels : ℕ) (sets : Bool) (arms : List (Expr × List Stmt)) (b : Block) →
     Within m a_statement (s.elsif_forms levels sets may_elsif arms b)
     (s.elsif_forms (levels_with m levels) (flag_with m sets) may_elsif arms b)
@@ -113,14 +120,16 @@ within m (definition here) =
     (opening m here.levels (d.class_from here) (d.class_from (body_with m here)) (class_same m here))))
     (members_within m (d.at_top here.path) here)
 within m (path_rest more ending names) = path_within m more ending names
-within m (parent path at) = both (up_token λ w t. up_mark (up_call λ c. up_token λ v u. up_give))
-    (both (up_token λ w t. up_mark up_give) none)
+within m (opened_path more how names) = opened_within m more how names
+within m (parent path at) = both (up_token λ w t. up_call λ c. up_token λ v u. up_give)
+    (both (up_token λ w t. up_give) none)
 within m (constant ending) = both (up_token λ w t. up_token λ v u. up_call λ y. up_give)
     (both (up_token λ w t. up_call λ y. up_give) none)
-within m heading = both (up_token λ w t. up_token λ v u. up_token λ v u. up_give) (both (up_token λ w t. up_give) none)
-within m (parameter_list levels n) = both (up_token λ w t. up_mark up_give)
-    (opening m levels (d.parameters_from n) (d.parameters_from n)
-    (λ k. up_token λ w t. up_mark (up_call λ y. up_token λ v u. up_token λ v u. up_give)))
+within m (heading path) = both (up_token λ w t. up_token λ v u. up_token λ v u. up_mark up_give)
+    (both (up_token λ w t. up_mark up_give) none)
+within m (parameter_list levels) = both (up_token λ w t. up_give)
+    (opening m levels d.parameters_from d.parameters_from
+    (λ k. up_token λ w t. up_call λ y. up_token λ v u. up_token λ v u. up_give))
 within m parameters = both (up_token λ w t. up_call λ y. up_give) (both up_give none)
 within m (more_parameters names) = both (up_token λ w t. up_token λ v u. up_call λ y. up_give) (both up_give none)
 within m (more_readers path names) = both (up_token λ w t. up_token λ v u. up_mark (up_call λ y. up_give))

@@ -19,6 +19,7 @@ use Rattle.ruby_grammar.specs.Signs.{is_if, is_unless, is_elsif, is_else, is_end
 use Rattle.ruby_grammar.specs.Rules.{ruby, Sort, Rule, Name, Body, Around, Scope, Block, a_def, a_statement}
 use Rattle.ruby_grammar.specs.Rules.{an_expression, some_names, file, definitions, more_definitions, definition}
 use Rattle.ruby_grammar.specs.Rules.{path_rest, parent, constant, heading, parameter_list, parameters, more_parameters}
+use Rattle.ruby_grammar.specs.Rules.{PathOpening, opened_path}
 use Rattle.ruby_grammar.specs.Rules.{more_readers, statements, more_statements, statement, simple_statement}
 use Rattle.ruby_grammar.specs.Rules.{condition_behind, then_or_line, perhaps_line, arms_rest, perhaps_expression}
 use Rattle.ruby_grammar.specs.Rules.{expression, choice_rest, operators, more_operators, unary, postfix, more_postfix}
@@ -27,6 +28,7 @@ use Rattle.ruby_grammar.specs.Rules.{pair, text_parts}
 use Rattle.ruby_grammar.specs.Expressions as e
 use Rattle.ruby_grammar.specs.Statements as s
 use Rattle.ruby_grammar.specs.Definitions as d
+use Rattle.ruby_grammar.specs.Choices.{pick_opened_path}
 use Rattle.ruby_grammar.specs.Choices.{next_is, pick, deepen, starts_expression, starts_statement, starts_pair}
 use Rattle.ruby_grammar.specs.Choices.{starts_definition, pick_member, pick_path_rest, pick_set_ivar, pick_elsif}
 use Rattle.ruby_grammar.specs.Choices.{pick_branch, pick_more_operators}
@@ -71,6 +73,12 @@ path_kin : (m : More) (more : Bool) (ending : Option Mark) (names : List Name) (
 path_kin m true ending names a = kin_if m (next_is is_path a) _ _ _ _
     (kin_take (up_token λ w t. up_token λ v u. up_call λ y. up_give)) (kin_take (end_same m ending names))
 path_kin m false ending names a = kin_take (end_same m ending names)
+
+opened_kin : (m : More) (more : Bool) (how : PathOpening) (names : List Name) (a : Option Word) →
+    Kin m some_names (pick_opened_path more how names a) (pick_opened_path more how names a)
+opened_kin m true how names a = kin_if m (next_is is_path a) _ _ _ _
+    (kin_take (up_token λ w t. up_token λ v u. up_call λ y. up_give)) (kin_take (up_mark up_give))
+opened_kin m false how names a = kin_take (up_mark up_give)
 
 set_kin : (m : More) (sets : Bool) (here : Around) →
     Kin m a_statement (pick_set_ivar sets here) (pick_set_ivar (flag_with m sets) (around_with m here))
@@ -126,20 +134,21 @@ kin m (definition here) a b =
     (kin_deepen m here.levels (d.class_from here) (d.class_from (body_with m here)) (class_same m here))
     (member_kin m (d.at_top here.path) here a)))
 kin m (path_rest more ending names) a b = path_kin m more ending names a
+kin m (opened_path more how names) a b = opened_kin m more how names a
 kin m (parent path at) a b = kin_if m (next_is is_less a) _ _ _ _
-    (kin_take (up_token λ w t. up_mark (up_call λ c. up_token λ v u. up_give)))
-    (kin_if m (next_is is_line a) _ _ _ _ (kin_take (up_token λ w t. up_mark up_give)) kin_nothing)
+    (kin_take (up_token λ w t. up_call λ c. up_token λ v u. up_give))
+    (kin_if m (next_is is_line a) _ _ _ _ (kin_take (up_token λ w t. up_give)) kin_nothing)
 kin m (constant ending) a b = kin_if m (next_is is_path a) _ _ _ _
     (kin_take (up_token λ w t. up_token λ v u. up_call λ y. up_give))
     (kin_if m (next_is is_const a) _ _ _ _ (kin_take (up_token λ w t. up_call λ y. up_give)) kin_nothing)
-kin m heading a b = kin_if m (next_is is_self a) _ _ _ _
-    (kin_take (up_token λ w t. up_token λ v u. up_token λ v u. up_give))
-    (kin_if m (next_is is_name a) _ _ _ _ (kin_take (up_token λ w t. up_give)) kin_nothing)
-kin m (parameter_list levels n) a b =
-    kin_if m (next_is is_line a) _ _ _ _ (kin_take (up_token λ w t. up_mark up_give))
+kin m (heading path) a b = kin_if m (next_is is_self a) _ _ _ _
+    (kin_take (up_token λ w t. up_token λ v u. up_token λ v u. up_mark up_give))
+    (kin_if m (next_is is_name a) _ _ _ _ (kin_take (up_token λ w t. up_mark up_give)) kin_nothing)
+kin m (parameter_list levels) a b =
+    kin_if m (next_is is_line a) _ _ _ _ (kin_take (up_token λ w t. up_give))
     (kin_if m (next_is is_open_paren a) _ _ _ _
-    (kin_deepen m levels (d.parameters_from n) (d.parameters_from n)
-    (λ k. up_token λ w t. up_mark (up_call λ y. up_token λ v u. up_token λ v u. up_give))) kin_nothing)
+    (kin_deepen m levels d.parameters_from d.parameters_from
+    (λ k. up_token λ w t. up_call λ y. up_token λ v u. up_token λ v u. up_give)) kin_nothing)
 kin m parameters a b = kin_if m (next_is is_variable a) _ _ _ _ (kin_take (up_token λ w t. up_call λ y. up_give))
     (kin_take up_give)
 kin m (more_parameters names) a b = kin_if m (next_is is_comma a) _ _ _ _

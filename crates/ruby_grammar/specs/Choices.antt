@@ -14,6 +14,7 @@ use Rattle.ruby_grammar.specs.Signs.{is_label, is_sym, is_int, is_text_open, is_
 use Rattle.ruby_grammar.specs.Signs.{is_less, is_minus, is_ask, is_path, is_dot, is_comma, is_assign, is_open_paren}
 use Rattle.ruby_grammar.specs.Signs.{is_open_bracket, is_open_brace, is_tight_paren, is_tight_bracket, is_variable}
 use Rattle.ruby_grammar.specs.Marks.{Mark}
+use Rattle.ruby_grammar.specs.Rules.{opened_path, PathOpening}
 use Rattle.ruby_grammar.specs.Rules.{ruby, Name, Path, Body, Known, Around, Scope, Block, Sort, Rule, a_def, some_names}
 use Rattle.ruby_grammar.specs.Rules.{a_statement, an_expression, some_parts, no_value}
 use Rattle.ruby_grammar.specs.Rules.{file, definitions, more_definitions, definition, path_rest, parent, constant}
@@ -79,6 +80,11 @@ abbrev pub pick_path_rest : Bool → Option Mark → List Name → Option Word �
 pick_path_rest true ending names a = if next_is is_path a then take (e.path_more ending names) else take
     (e.path_end ending names)
 pick_path_rest false ending names a = take (e.path_end ending names)
+
+abbrev pub pick_opened_path : Bool → PathOpening → List Name → Option Word → Choice ruby some_names
+pick_opened_path true how names a = if next_is is_path a then take (d.opened_path_more how names) else take
+    (d.opened_path_end how names)
+pick_opened_path false how names a = take (d.opened_path_end how names)
 
 abbrev pub pick_statement : Around → Option Word → Choice ruby a_statement
 pick_statement here a =
@@ -179,14 +185,15 @@ pick (more_definitions here ds) a b = if next_is is_line a then take (token is_l
     else take (give ds)
 pick (definition here) a b = pick_definition here a
 pick (path_rest more ending names) a b = pick_path_rest more ending names a
+pick (opened_path more how names) a b = pick_opened_path more how names a
 pick (parent path at) a b = if next_is is_less a then take (d.some_parent path at) else
-    (if next_is is_line a then take (d.no_parent path at) else nothing)
+    (if next_is is_line a then take d.no_parent else nothing)
 pick (constant ending) a b = if next_is is_path a then take (token is_path λ _. e.constant_from true ending) else
     (if next_is is_const a then take (e.constant_from false ending) else nothing)
-pick heading a b = if next_is is_self a then take d.singleton_heading else
-    (if next_is is_name a then take (d.method_name false) else nothing)
-pick (parameter_list levels m) a b = if next_is is_line a then take (d.no_parameters m) else
-    (if next_is is_open_paren a then deepen levels (d.parameters_from m) else nothing)
+pick (heading path) a b = if next_is is_self a then take (d.singleton_heading path) else
+    (if next_is is_name a then take (d.method_name path false) else nothing)
+pick (parameter_list levels) a b = if next_is is_line a then take d.no_parameters else
+    (if next_is is_open_paren a then deepen levels d.parameters_from else nothing)
 pick parameters a b = if next_is is_variable a then take
     (token is_variable λ w. only (more_parameters (w.text ∷ []))) else take (give [])
 pick (more_parameters names) a b = if next_is is_comma a then take (d.parameter_more names) else take (give names)

@@ -6,11 +6,12 @@ use Rattle.descent.specs.Grammar.{Prod, give, token, call, mark, only}
 use Rattle.ruby_grammar.specs.Words.{Word}
 use Rattle.ruby_grammar.specs.Signs.{is_name, is_module, is_class, is_def, is_end, is_self, is_include, is_attr_reader}
 use Rattle.ruby_grammar.specs.Signs.{is_line, is_const, is_sym, is_less, is_dot, is_comma, is_assign, is_open_paren}
-use Rattle.ruby_grammar.specs.Signs.{is_close_paren, is_variable, is_new_parameter}
+use Rattle.ruby_grammar.specs.Signs.{is_close_paren, is_path, is_variable, is_new_parameter}
 use Rattle.ruby_grammar.specs.Marks.{Mark, Act, assigns, opens_module, opens_class, gives_parent, defines}
-use Rattle.ruby_grammar.specs.Rules.{ruby, Name, Path, Body, Heading, a_tree, some_defs, a_def, a_heading, some_names}
+use Rattle.ruby_grammar.specs.Rules.{ruby, Name, Path, Body, Heading, PathOpening, Rule, a_tree, some_defs, a_def}
+use Rattle.ruby_grammar.specs.Rules.{a_heading, some_names}
 use Rattle.ruby_grammar.specs.Rules.{a_parent}
-use Rattle.ruby_grammar.specs.Rules.{definitions, more_definitions, definition, path_rest, parent, constant, heading}
+use Rattle.ruby_grammar.specs.Rules.{definitions, more_definitions, definition, opened_path, parent, constant, heading}
 use Rattle.ruby_grammar.specs.Rules.{parameter_list, parameters, more_parameters, more_readers, statements, expression}
 use Rattle.ruby_grammar.specs.Values.{behind_sign}
 use Rattle.ruby_grammar.specs.Expressions.{opening}
@@ -44,32 +45,51 @@ definitions_forms here ds = definition_then here ds ∷ give ds ∷ []
 abbrev pub more_definitions_forms : Body → List Def → List (Prod ruby some_defs)
 more_definitions_forms here ds = (token is_line λ _. only (definitions here ds)) ∷ give ds ∷ []
 
--- "module" dpath L { item L } "end". A path opens behind the token that shows its end.
+-- dpath = CONST { "::" CONST }, inside another definition CONST alone. The path counts behind its end, whatever stands
+-- there: behind `A = 1` and a Line, `module A` counts twice before another word, a fault of the lexer and the end.
+abbrev pub opens : PathOpening → List Name → Mark
+opens how names = counts (how.outer ++ names) how.act how.at
+
+abbrev pub opened_path_more : PathOpening → List Name → Prod ruby some_names
+opened_path_more how names = token is_path λ _. token is_const λ w. only (opened_path true how (names ++ w.text ∷ []))
+
+abbrev pub opened_path_end : PathOpening → List Name → Prod ruby some_names
+opened_path_end how names = mark (opens how names) (give names)
+
+abbrev pub opened_path_forms : Bool → PathOpening → List Name → List (Prod ruby some_names)
+opened_path_forms true how names = opened_path_more how names ∷ opened_path_end how names ∷ []
+opened_path_forms false how names = opened_path_end how names ∷ []
+
+-- a path that is opened in this body, whose first name is this word
+abbrev pub opened_from : Body → Act → Word → Rule some_names
+opened_from here act w =
+    opened_path (at_top here.path) (record { outer = here.path; act = act; at = w.at }) (w.text ∷ [])
+
+-- "module" dpath L { item L } "end"
 abbrev pub module_from : Body → ℕ → Prod ruby a_def
 module_from here levels =
-    token is_module λ _. token is_const λ w. call (path_rest (at_top here.path) None (w.text ∷ [])) λ path.
-    token is_line λ _. mark (counts (here.path ++ path) opens_module w.at)
-    (call (definitions (body levels here.anywhere (here.path ++ path)) []) λ ds. token is_end λ _.
-    give (def.Module path ds))
+    token is_module λ _. token is_const λ w. call (opened_from here opens_module w) λ path. token is_line λ _.
+    call (definitions (body levels here.anywhere (here.path ++ path)) []) λ ds. token is_end λ _.
+    give (def.Module path ds)
 
 -- "class" dpath [ "<" cref ] L { item L } "end"
 abbrev pub class_from : Body → ℕ → Prod ruby a_def
 class_from here levels =
-    token is_class λ _. token is_const λ w. call (path_rest (at_top here.path) None (w.text ∷ [])) λ path.
+    token is_class λ _. token is_const λ w. call (opened_from here opens_class w) λ path.
     call (parent (here.path ++ path) w.at) λ p.
     call (definitions (body levels here.anywhere (here.path ++ path)) []) λ ds. token is_end λ _.
     give (def.Class path p ds)
 
-abbrev pub no_parent : Path → ℕ → Prod ruby a_parent
-no_parent path at = token is_line λ _. mark (counts path opens_class at) (give None)
+abbrev pub no_parent : Prod ruby a_parent
+no_parent = token is_line λ _. give None
 
--- a parent counts once its path is read, at the class's path
+-- a parent counts behind the end of its path, at the class's path
 abbrev pub some_parent : Path → ℕ → Prod ruby a_parent
-some_parent path at = token is_less λ _. mark (counts path opens_class at)
-    (call (constant (Some (counts path gives_parent at))) λ c. token is_line λ _. give (Some c))
+some_parent path at = token is_less λ _.
+    call (constant (Some (counts path gives_parent at))) λ c. token is_line λ _. give (Some c)
 
 abbrev pub parent_forms : Path → ℕ → List (Prod ruby a_parent)
-parent_forms path at = some_parent path at ∷ no_parent path at ∷ []
+parent_forms path at = some_parent path at ∷ no_parent ∷ []
 
 -- CONST "=" expr. It counts behind the `=`.
 abbrev pub assign_from : Body → Prod ruby a_def
@@ -84,30 +104,30 @@ may_set anywhere h = anywhere || (not h.single && bytes_eq h.name (codes "initia
 -- "def" [ "self" "." ] NAME [ "(" [ NAME { "," NAME } ] ")" ] L { stmt L } "end"
 abbrev pub method_from : Body → ℕ → Prod ruby a_def
 method_from here levels =
-    token is_def λ _. call heading λ h.
-    call (parameter_list levels (counts here.path (defines h.single h.name) h.at)) λ names.
+    token is_def λ _. call (heading here.path) λ h. call (parameter_list levels) λ names.
     call (statements (around levels (may_set here.anywhere h) names) []) λ b. token is_end λ _.
     give (def.Method h.single h.name names b.stmts)
 
-abbrev pub method_name : Bool → Prod ruby a_heading
-method_name single = token is_name λ w. give (record { single = single; name = w.text; at = w.at })
+-- A method counts behind its name, with which nothing goes on.
+abbrev pub method_name : Path → Bool → Prod ruby a_heading
+method_name path single = token is_name λ w.
+    mark (counts path (defines single w.text) w.at) (give (record { single = single; name = w.text }))
 
-abbrev pub singleton_heading : Prod ruby a_heading
-singleton_heading = token is_self λ _. token is_dot λ _. method_name true
+abbrev pub singleton_heading : Path → Prod ruby a_heading
+singleton_heading path = token is_self λ _. token is_dot λ _. method_name path true
 
-abbrev pub heading_forms : List (Prod ruby a_heading)
-heading_forms = singleton_heading ∷ method_name false ∷ []
+abbrev pub heading_forms : Path → List (Prod ruby a_heading)
+heading_forms path = singleton_heading path ∷ method_name path false ∷ []
 
--- A method counts behind the token that shows its name's end.
-abbrev pub no_parameters : Mark → Prod ruby some_names
-no_parameters m = token is_line λ _. mark m (give [])
+abbrev pub no_parameters : Prod ruby some_names
+no_parameters = token is_line λ _. give []
 
-abbrev pub parameters_from : Mark → ℕ → Prod ruby some_names
-parameters_from m levels = token is_open_paren λ _.
-    mark m (call parameters λ names. token is_close_paren λ _. token is_line λ _. give names)
+abbrev pub parameters_from : ℕ → Prod ruby some_names
+parameters_from levels = token is_open_paren λ _.
+    call parameters λ names. token is_close_paren λ _. token is_line λ _. give names
 
-abbrev pub parameter_list_forms : ℕ → Mark → List (Prod ruby some_names)
-parameter_list_forms levels m = no_parameters m ∷ opening levels (parameters_from m)
+abbrev pub parameter_list_forms : ℕ → List (Prod ruby some_names)
+parameter_list_forms levels = no_parameters ∷ opening levels parameters_from
 
 abbrev pub parameters_forms : List (Prod ruby some_names)
 parameters_forms = (token is_variable λ w. only (more_parameters (w.text ∷ []))) ∷ give [] ∷ []

@@ -13,7 +13,7 @@ use Rattle.ruby_grammar.specs.Rules.{more_readers, statements, more_statements, 
 use Rattle.ruby_grammar.specs.Rules.{condition_behind, then_or_line, perhaps_line, arms_rest, perhaps_expression}
 use Rattle.ruby_grammar.specs.Rules.{expression, choice_rest, operators, more_operators, unary, postfix, more_postfix}
 use Rattle.ruby_grammar.specs.Rules.{primary, name_rest, perhaps_arguments, members, more_members, pairs, more_pairs}
-use Rattle.ruby_grammar.specs.Rules.{pair, text_parts}
+use Rattle.ruby_grammar.specs.Rules.{pair, text_parts, opened_path}
 
 -- the end of the words, or a word that passes
 abbrev pub ends_or : (Word → Bool) → Option Word → Bool
@@ -80,10 +80,12 @@ fits (more_definitions here ds) = ends_or is_end
 fits (definition here) = ends_or (λ w. is_line w || is_end w)
 fits (path_rest true ending names) = none_is is_path
 fits (path_rest false ending names) = λ a. true
+fits (opened_path true how names) = none_is is_path
+fits (opened_path false how names) = λ a. true
 fits (parent path at) = λ a. true
 fits (constant ending) = none_is is_path
-fits heading = λ a. true
-fits (parameter_list levels m) = λ a. true
+fits (heading path) = λ a. true
+fits (parameter_list levels) = λ a. true
 fits parameters = next_is is_close_paren
 fits (more_parameters names) = next_is is_close_paren
 fits (more_readers path names) = none_is is_comma
@@ -118,10 +120,11 @@ abbrev pub looks : {s : Sort} → Rule s → Option Word → Bool
 looks (simple_statement here) a = next_is (λ w. is_variable w || is_ivar w) a
 looks _ a = false
 
--- only the end of a parent's path is a mark at once
+-- only the end of a path that counts is a mark at once
 abbrev pub begins_plain : {s : Sort} → Rule s → Bool
 begins_plain (path_rest more None names) = true
 begins_plain (path_rest more (Some m) names) = false
+begins_plain (opened_path more how names) = false
 begins_plain _ = true
 
 -- marks stand in definitions alone
@@ -132,10 +135,11 @@ is_quiet (more_definitions here ds) = false
 is_quiet (definition here) = false
 is_quiet (path_rest more None names) = true
 is_quiet (path_rest more (Some m) names) = false
+is_quiet (opened_path more how names) = false
 is_quiet (parent path at) = false
 is_quiet (constant None) = true
 is_quiet (constant (Some m)) = false
-is_quiet (parameter_list levels m) = false
+is_quiet (heading path) = false
 is_quiet (more_readers path names) = false
 is_quiet _ = true
 

@@ -9,7 +9,7 @@ use Rattle.ruby_grammar.specs.Rules.{more_readers, statements, more_statements, 
 use Rattle.ruby_grammar.specs.Rules.{condition_behind, then_or_line, perhaps_line, arms_rest, perhaps_expression}
 use Rattle.ruby_grammar.specs.Rules.{expression, choice_rest, operators, more_operators, unary, postfix, more_postfix}
 use Rattle.ruby_grammar.specs.Rules.{primary, name_rest, perhaps_arguments, members, more_members, pairs, more_pairs}
-use Rattle.ruby_grammar.specs.Rules.{pair, text_parts}
+use Rattle.ruby_grammar.specs.Rules.{pair, text_parts, opened_path}
 use Rattle.ruby_grammar.specs.Expressions.{constant_forms, path_rest_forms, expression_forms, choice_rest_forms}
 use Rattle.ruby_grammar.specs.Expressions.{operators_forms, more_operators_forms, unary_forms, postfix_forms}
 use Rattle.ruby_grammar.specs.Expressions.{more_postfix_forms, primary_forms, name_rest_forms, perhaps_arguments_forms}
@@ -20,7 +20,7 @@ use Rattle.ruby_grammar.specs.Statements.{simple_statement_forms, condition_behi
 use Rattle.ruby_grammar.specs.Statements.{perhaps_line_forms, arms_rest_forms, perhaps_expression_forms}
 use Rattle.ruby_grammar.specs.Definitions.{file_forms, definitions_forms, more_definitions_forms, definition_forms}
 use Rattle.ruby_grammar.specs.Definitions.{parent_forms, heading_forms, parameter_list_forms, parameters_forms}
-use Rattle.ruby_grammar.specs.Definitions.{more_parameters_forms, more_readers_forms}
+use Rattle.ruby_grammar.specs.Definitions.{more_parameters_forms, more_readers_forms, opened_path_forms}
 use Rattle.ruby_types.specs.declared.tree.FileTree.{FileTree}
 
 abbrev pub forms : {s : Sort} → Rule s → List (Prod ruby s)
@@ -29,10 +29,11 @@ forms (definitions here ds) = definitions_forms here ds
 forms (more_definitions here ds) = more_definitions_forms here ds
 forms (definition here) = definition_forms here
 forms (path_rest more ending names) = path_rest_forms more ending names
+forms (opened_path more how names) = opened_path_forms more how names
 forms (parent path at) = parent_forms path at
 forms (constant ending) = constant_forms ending
-forms heading = heading_forms
-forms (parameter_list levels m) = parameter_list_forms levels m
+forms (heading path) = heading_forms path
+forms (parameter_list levels) = parameter_list_forms levels
 forms parameters = parameters_forms
 forms (more_parameters names) = more_parameters_forms names
 forms (more_readers path names) = more_readers_forms path names

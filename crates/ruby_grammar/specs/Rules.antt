@@ -9,7 +9,7 @@ use Rattle.ruby_types.specs.declared.tree.ConstRef.{ConstRef}
 use Rattle.descent.specs.Grammar.{Signs}
 use Rattle.ruby_grammar.specs.Words.{Word}
 use Rattle.ruby_grammar.specs.Signs.{Level}
-use Rattle.ruby_grammar.specs.Marks.{Mark}
+use Rattle.ruby_grammar.specs.Marks.{Mark, Act}
 
 abbrev pub Name : Type 0
 Name = List ℕ
@@ -45,10 +45,16 @@ pub record Scope : Type 0 where
   pub levels : ℕ
   pub names : List Name
 
--- the name of a method: whether `self.` stands before it, and its place
+-- the name of a method, and whether `self.` stands before it
 pub record Heading : Type 0 where
   pub single : Bool
   pub name : Name
+
+-- A module or class that is opened: the path around it, what its keyword does to its own path, and the place of its
+-- name.
+pub record PathOpening : Type 0 where
+  pub outer : Path
+  pub act : Act
   pub at : ℕ
 
 pub data Sort : Type 0 where
@@ -97,13 +103,17 @@ pub data Rule : Sort → Type 0 where
   -- what follows the first name of a path: the rest of it (where the flag is true), and behind its end the mark, if
   -- there is one
   path_rest : Bool → Option Mark → List Name → Rule some_names
+  -- what follows the first name of a path that is opened: the rest of it (where the flag is true), and behind its end
+  -- the mark
+  opened_path : Bool → PathOpening → List Name → Rule some_names
   -- what follows a class's path: perhaps a parent, and a Line
   parent : Path → ℕ → Rule a_parent
   -- a constant as it is written
   constant : Option Mark → Rule a_constant
-  heading : Rule a_heading
+  -- the name of a method in the body of this path
+  heading : Path → Rule a_heading
   -- what follows a method's name: parameters, perhaps, and a Line
-  parameter_list : ℕ → Mark → Rule some_names
+  parameter_list : ℕ → Rule some_names
   parameters : Rule some_names
   more_parameters : List Name → Rule some_names
   more_readers : Path → List Name → Rule some_names
