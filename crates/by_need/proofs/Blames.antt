@@ -128,7 +128,7 @@ module _ {T V E O : Type 0} (r : Rules T V E O) (laws : Lawful r) where
       at : (a : Answer T V E O) → (r.run t (known r)).answer ≡ a → is_task r (asked_by t a) ≡ true
       at (Done v) e = h
       at (Raised x) e = h
-      at (Asks u) e = asks_task r laws t (known r) u (Part-refl (known r)) h e
+      at (Asks u) e = asks_task r laws t (known r) u (Part-refl (known r)) e
       at (Otherwise o) e = h
 
   pub follow_task : (n : ℕ) (t : T) → is_task r t ≡ true → is_task r (follow r n t) ≡ true

@@ -71,12 +71,12 @@ module _ {T V E O : Type 0} (r : Rules T V E O) (laws : Lawful r) where
   pub chain_tasks : (ts : List T) (t : T) (K : T → Option V) → Part K (known r) → Chain r K ts t →
       is_task r (first_or t ts) ≡ true → AllTasks r (ts ++ t ∷ [])
   chain_tasks [] t K p c h = (h, tt)
-  chain_tasks (x ∷ ts) t K p c h = (h, chain_tasks ts t K p c.1 (asks_task r laws x K (first_or t ts) p h c.0))
+  chain_tasks (x ∷ ts) t K p c h = (h, chain_tasks ts t K p c.1 (asks_task r laws x K (first_or t ts) p c.0))
 
   chain_last_task : (ts : List T) (t : T) (K : T → Option V) → Part K (known r) → Chain r K ts t →
       is_task r (first_or t ts) ≡ true → is_task r t ≡ true
   chain_last_task [] t K p c h = h
-  chain_last_task (x ∷ ts) t K p c h = chain_last_task ts t K p c.1 (asks_task r laws x K (first_or t ts) p h c.0)
+  chain_last_task (x ∷ ts) t K p c h = chain_last_task ts t K p c.1 (asks_task r laws x K (first_or t ts) p c.0)
 
   chain_needs : (s : T) (ts : List T) (t : T) (K : T → Option V) → Part K (known r) → Needs r s (first_or t ts) →
       Chain r K ts t → Needs r s t
@@ -263,7 +263,7 @@ module _ {T V E O : Type 0} (r : Rules T V E O) (laws : Lawful r) where
         let first : first_or u (front ++ ring) ≡ task = ap (first_or u) (sym split) ∙ first_push ts t u ∙ l.start in
         let le : p + length front ≤ length r.tasks = omega (arith, n, length-append front ring) in
         let is_ring : Ring r u p = record {
-          is = asks_task r laws t K u l.part (open_task K ts t l) e;
+          is = asks_task r laws t K u l.part e;
           some = omega arith;
           small = omega (arith, le);
           back = chain_follow r ring u round;

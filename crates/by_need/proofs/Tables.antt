@@ -36,16 +36,17 @@ module _ {T V E O : Type 0} (r : Rules T V E O) (laws : Lawful r) where
       let at : is_in r u (r.run t K).asked ≡ true = rw f.1 (in_append_right u f.0 (u ∷ []) here) in
       rw m.1 (in_append_left u (r.run t K).asked m.0 at)
 
-  -- what a task asks for over a part of all that is known is a task
-  pub asked_task : (t : T) (K : T → Option V) (u : T) → Part K (known r) → is_task r t ≡ true →
-      is_in r u (r.run t K).asked ≡ true → is_task r u ≡ true
-  asked_task t K u p h m =
+  -- what is asked for over a part of all that is known is a task
+  pub asked_task : (t : T) (K : T → Option V) (u : T) → Part K (known r) → is_in r u (r.run t K).asked ≡ true →
+      is_task r u ≡ true
+  asked_task t K u p m =
       let q = laws.prefix t K (known r) p in
-      laws.closed t u h (rw q.1 (in_append_left u (r.run t K).asked q.0 m))
+      laws.closed t u (rw q.1 (in_append_left u (r.run t K).asked q.0 m))
 
-  pub asks_task : (t : T) (K : T → Option V) (u : T) → Part K (known r) → is_task r t ≡ true →
-      (r.run t K).answer ≡ Asks u → is_task r u ≡ true
-  asks_task t K u p h e = laws.closed t u h (asks_asked t K (known r) u p e)
+  -- and so is what it waits for
+  pub asks_task : (t : T) (K : T → Option V) (u : T) → Part K (known r) → (r.run t K).answer ≡ Asks u →
+      is_task r u ≡ true
+  asks_task t K u p e = laws.closed t u (asks_asked t K (known r) u p e)
 
   pub asks_needs : (s t : T) (K : T → Option V) (u : T) → Part K (known r) → Needs r s t →
       (r.run t K).answer ≡ Asks u → Needs r s u

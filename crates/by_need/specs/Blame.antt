@@ -28,7 +28,7 @@ abbrev pub walk : {T V E O : Type 0} → Rules T V E O → ℕ → T → List T
 walk r zero t = []
 walk r (suc n) t = t ∷ walk r n (next r t)
 
--- The least of t and the list, by the order of names.
+-- The least of t and the list, by the order of tasks.
 abbrev pub least_of : {T V E O : Type 0} → Rules T V E O → T → List T → T
 least_of r t [] = t
 least_of r t (u ∷ us) = cond (r.at_most t u) (least_of r t us) (least_of r u us)

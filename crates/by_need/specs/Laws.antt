@@ -17,13 +17,16 @@ EndsWith ts (Raised e) = Unit {0}
 EndsWith {T} ts (Asks u) = (front : List T) × (ts ≡ front ++ u ∷ [])
 EndsWith ts (Otherwise o) = Unit {0}
 
--- What tasks ask for over all that is known are tasks.
+-- What is asked for over all that is known are tasks, whether a task asks or a run that is itself no task, as that of
+-- a request to an application.
 abbrev pub Closed : {T V E O : Type 0} → Rules T V E O → Type 0
-Closed {T} r = (t u : T) → is_task r t ≡ true → is_in r u (r.run t (known r)).asked ≡ true → is_task r u ≡ true
+Closed {T} r = (t u : T) → is_in r u (r.run t (known r)).asked ≡ true → is_task r u ≡ true
 
--- All laws. A run over more that is known stays as it is, unless it waited for something that is now known (grow); it
--- asks for the same tasks and then perhaps for more (prefix); the task that it waits for is the last one asked for
--- (last) and is not known (lacks); each task asked for is known or is that one (asked_known).
+-- All laws. Two that are the same are equal (same_is, same_self). The order compares any two (total), goes on along a
+-- chain (chain), and ties no two tasks (equal). A run over more that is known stays as it is, unless it waited for
+-- something that is now known (grow); it asks for the same tasks and then perhaps for more (prefix); the task that it
+-- waits for is the last one asked for (last) and is not known (lacks); each task asked for is known or is that one
+-- (asked_known). What is asked for is a task (closed).
 pub record Lawful {T V E O : Type 0} (r : Rules T V E O) : Type 0 where
   pub same_is : (a b : T) → r.same a b ≡ true → a ≡ b
   pub same_self : (a : T) → r.same a a ≡ true

@@ -3,7 +3,8 @@ use Rattle.std.specs.Prelude.{◌≡◌, ℕ, zero, suc, List, length, Option, S
 use Rattle.std.specs.List.{list_any}
 use Rattle.by_need.specs.Asking.{Answer, Done, Raised, Asks, Otherwise, Outcome, Computation, over}
 
--- The tasks; when two are the same; the order of their names; and what the run of a task over what is known comes to.
+-- The tasks; when two are the same; their order; and what the run of a task over what is known comes to. Where tasks
+-- have names, the order is by name first, and then by what tells tasks of one name apart, so that no two tie.
 pub record Rules (T V E O : Type 0) : Type 0 where
   pub same : T → T → Bool
   pub at_most : T → T → Bool

@@ -25,10 +25,10 @@ pub fn asked_is_known_or_lacking<Y: Theory>(theory: &Y)
         is_in r u (r.run t K).asked ≡ true → (is_some (K u) ≡ true) ⊎ ((r.run t K).answer ≡ Asks u) }
 {}
 
-/// Each task that a task asks for, over a part of all that is known, is a task.
+/// What a task or a request asks for, over a part of all that is known, is a task.
 pub fn asked_is_a_task<Y: Theory>(theory: &Y)
-    ensures { let r = Y.rules theory.now in (t u : Y.Task) (K : Y.Task → Option Y.Value) → is_task r t ≡ true →
-        Part K (known r) → is_in r u (r.run t K).asked ≡ true → is_task r u ≡ true }
+    ensures { let r = Y.rules theory.now in (t u : Y.Task) (K : Y.Task → Option Y.Value) → Part K (known r) →
+        is_in r u (r.run t K).asked ≡ true → is_task r u ≡ true }
 {}
 
 /// What is known of a task is what its run over all that is known is done with.

@@ -63,4 +63,4 @@ equal a b e f = let le1 = leb-true a b e in let le2 = leb-true b a f in omega (a
 pub graph_laws : (bodies : List Body) → all_below (length bodies) bodies ≡ true → Lawful (rules_of bodies)
 graph_laws bodies b =
     lawful eqb leb (below (length bodies)) (meaning bodies) eqb-true (λ a. eq-eqb a a refl) total chain
-    (λ a b h k. equal a b) (λ t u h m. in_below (length bodies) u (closed_at (length bodies) bodies t u _ b m))
+    (λ a b h k. equal a b) (λ t u m. in_below (length bodies) u (closed_at (length bodies) bodies t u _ b m))
