@@ -1,2 +1,3 @@
+mod EscapeLaws
 pub mod PathLaws
 pub mod SegmentLaws

@@ -31,8 +31,15 @@ pub fn path_text(alloc: Global, path: &CPath) -> Result<Text, AllocError>
     ensures { IfOk result (λ text. text ≡ printed.path_text path.now) }
 {
     let mut written = Vec::new(alloc);
-    push_names(&mut written, path.as_slice())?;
+    push_path(&mut written, path)?;
     Text::from_vec(alloc, written)
+}
+
+/// Writes a constant path behind what is there, as [`path_text`] shows it.
+pub fn push_path(written: &mut Vec<u8>, path: &CPath) -> Result<(), AllocError>
+    ensures { OnOk result (written.new.items ≡ written.old.items ++ printed.path_text path.now) }
+{
+    push_names(written, path.as_slice())
 }
 
 fn push_names(written: &mut Vec<u8>, names: &[Text]) -> Result<(), AllocError>

@@ -1,1 +1,2 @@
+mod SameLaws
 mod SizeLaws

@@ -4,11 +4,15 @@
 //! The lists that trees are made of are built once and read.
 #![tactic(auto)]
 
+mod compare;
+mod copies;
 mod request;
 mod sizes;
 mod tree;
 mod value;
 
+pub use compare::equal;
+pub use copies::{copy, copy_request, copy_task};
 pub use request::{ErrorClass, Reply, Request, RubyError, Task};
 pub use sizes::size;
 pub use tree::{

@@ -1,0 +1,139 @@
+ghost use Rattle.std.specs.Prelude.{◌≡◌, ◌&&◌, nat_eq, count_by, length, IsTrue};
+ghost use Rattle.std.specs.Ordering.{int_eq};
+ghost use Rattle.std.specs.Str.{bytes_eq};
+ghost use Rattle.ruby_types.specs.Same.{same, same_both, same_each, same_counts};
+
+use crate::value::{CPath, Items, Pairs, Value};
+
+/// The same value by structure, where a Hash has the same pairs, each as often, in any order. It takes no memory.
+#[cycle(equal)]
+#[tactic(auto, using(crate::proofs::SameLaws::same_is))]
+pub fn equal(a: &Value, b: &Value) -> bool
+    ensures { result ≡ same a.now b.now }
+{
+    match a {
+        Value::Nil => matches!(b, Value::Nil),
+        Value::True => matches!(b, Value::True),
+        Value::False => matches!(b, Value::False),
+        Value::Int(m) => match b {
+            Value::Int(n) => equal_ints(m, n),
+            _ => false,
+        },
+        Value::Str(s) => match b {
+            Value::Str(t) => s.as_bytes() == t.as_bytes(),
+            _ => false,
+        },
+        Value::Sym(s) => match b {
+            Value::Sym(t) => s.as_bytes() == t.as_bytes(),
+            _ => false,
+        },
+        Value::Array(xs) => match b {
+            Value::Array(ys) => equal_items(xs, ys),
+            _ => false,
+        },
+        Value::Hash(ps) => match b {
+            Value::Hash(qs) => equal_hashes(ps, qs),
+            _ => false,
+        },
+        Value::Module(p) => match b {
+            Value::Module(q) => equal_paths(p, q),
+            _ => false,
+        },
+        Value::Object(p, xs) => match b {
+            Value::Object(q, ys) => equal_paths(p, q) && equal_pairs(xs, ys),
+            _ => false,
+        },
+    }
+}
+
+#[cycle(equal)]
+fn equal_items(a: &Items, b: &Items) -> bool
+    ensures { result ≡ same_each same a.now b.now }
+{
+    if a.len() != b.len() {
+        return false;
+    }
+    let ys = b.as_slice();
+    'items: for (i, x) in a.as_slice().iter().enumerate() {
+        if !equal(x, &ys[i]) {
+            return false;
+        }
+    }
+    true
+}
+
+#[cycle(equal)]
+fn equal_pairs(a: &Pairs, b: &Pairs) -> bool
+    ensures { result ≡ same_each same_both a.now b.now }
+{
+    if a.len() != b.len() {
+        return false;
+    }
+    let ys = b.as_slice();
+    'pairs: for (i, x) in a.as_slice().iter().enumerate() {
+        if !equal_both(x, &ys[i]) {
+            return false;
+        }
+    }
+    true
+}
+
+#[cycle(equal)]
+fn equal_both(p: &(Value, Value), q: &(Value, Value)) -> bool
+    ensures { result ≡ same_both p.now q.now }
+{
+    equal(&p.0, &q.0) && equal(&p.1, &q.1)
+}
+
+#[cycle(equal)]
+fn count(p: &(Value, Value), pairs: &Pairs) -> usize
+    ensures { result ≡ count_by (same_both p.now) pairs.now }
+{
+    let mut n = 0;
+    'count: for q in pairs.as_slice() {
+        if equal_both(p, q) {
+            n += 1;
+        }
+    }
+    n
+}
+
+#[cycle(equal)]
+fn equal_hashes(a: &Pairs, b: &Pairs) -> bool
+    ensures { result ≡ (nat_eq (length a.now) (length b.now) && same_counts same_both a.now a.now b.now) }
+{
+    a.len() == b.len() && equal_counts(a, b)
+}
+
+#[cycle(equal)]
+fn equal_counts(a: &Pairs, b: &Pairs) -> bool
+    ensures { result ≡ same_counts same_both a.now a.now b.now }
+{
+    'counts: for p in a.as_slice() {
+        if count(p, a) != count(p, b) {
+            return false;
+        }
+    }
+    true
+}
+
+fn equal_paths(a: &CPath, b: &CPath) -> bool
+    ensures { result ≡ same_each bytes_eq a.now b.now }
+{
+    if a.len() != b.len() {
+        return false;
+    }
+    let ys = b.as_slice();
+    'names: for (i, s) in a.as_slice().iter().enumerate() {
+        if s.as_bytes() != ys[i].as_bytes() {
+            return false;
+        }
+    }
+    true
+}
+
+fn equal_ints(m: &i64, n: &i64) -> bool
+    ensures { result ≡ int_eq m.now n.now }
+{
+    *m == *n
+}
