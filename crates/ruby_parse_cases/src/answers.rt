@@ -2,7 +2,7 @@
 
 use crate::frames::Frame;
 use crate::shown::{Shown, show_file};
-use crate::written::written;
+use crate::written::bytes_of;
 use ruby_parse::{SyntaxFault, parse, print};
 use std::alloc::{AllocError, Global};
 
@@ -65,7 +65,7 @@ fn framed(alloc: Global, before: &str, bytes: &[u8], behind: &str) -> Result<Vec
 
 /// What is found of a case.
 pub fn found(alloc: Global, frame: &Frame, text: &str, sign: &str) -> Result<Vec<u8>, AllocError> {
-    let text = written(alloc, text)?;
+    let text = bytes_of(alloc, text)?;
     let file = framed(alloc, frame.before, text.bytes.as_slice(), frame.behind)?;
     if sign == ">" {
         printed(alloc, file.as_slice())
@@ -83,13 +83,13 @@ pub fn wanted(
     wanted: &str,
 ) -> Result<Vec<u8>, AllocError> {
     if sign == "!" {
-        let Some(mark) = written(alloc, text)?.mark else {
+        let Some(mark) = bytes_of(alloc, text)?.mark else {
             return copied(alloc, "a fault at a mark that lacks");
         };
         let at = frame.before.len().saturating_add(mark);
         return copied(alloc, format!(in alloc; "{wanted} at {at}")?.as_str());
     }
-    let wanted = written(alloc, wanted)?;
+    let wanted = bytes_of(alloc, wanted)?;
     framed(
         alloc,
         frame.wanted_before,

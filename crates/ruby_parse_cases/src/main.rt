@@ -35,7 +35,7 @@ fn judge(
     if found.as_slice() == wanted.as_slice() {
         return Ok(None);
     }
-    let found = written::shown(alloc, found.as_slice())?;
+    let found = written::escaped(alloc, found.as_slice())?;
     Ok(Some(format!(in alloc; "found {found}")?))
 }
 

@@ -93,7 +93,7 @@ impl Reading {
 }
 
 /// The bytes that a text stands for.
-pub fn written(alloc: Global, text: &str) -> Result<Written, AllocError> {
+pub fn bytes_of(alloc: Global, text: &str) -> Result<Written, AllocError> {
     let mut reading = Reading {
         done: Written {
             bytes: Vec::new(alloc),
@@ -110,7 +110,7 @@ pub fn written(alloc: Global, text: &str) -> Result<Written, AllocError> {
 }
 
 /// These bytes as a text that stands for them.
-pub fn shown(alloc: Global, bytes: &[u8]) -> Result<String, AllocError> {
+pub fn escaped(alloc: Global, bytes: &[u8]) -> Result<String, AllocError> {
     let mut text = String::new(alloc);
     for byte in bytes {
         match *byte {
