@@ -21,13 +21,16 @@ use Rattle.outside.specs.declared.files.FileEntry.{FileEntry}
 pub after_is : (a b : List ℕ) → order a b ≡ Greater → order b a ≡ Less
 after_is a b h = let e = nat_list_cmp_total.antisymm b a in e ∙ ap ordering_reverse h
 
+-- what comes after, said from the other side
 pub before_is : (a b : List ℕ) → order b a ≡ Less → order a b ≡ Greater
 before_is a b h = let e = nat_list_cmp_total.antisymm a b in e ∙ ap ordering_reverse h
 
+-- no text comes before itself
 pub not_before_itself : (a : List ℕ) → order a a ≡ Less → ⊥
 not_before_itself a h = let z : Less ≡ Greater = sym h ∙ before_is a a h in cc
 
-le_cases : (n m : ℕ) → n ≤ m → (n < m) ⊎ (n ≡ m)
+-- what is at most a number is below it or is it
+pub le_cases : (n m : ℕ) → n ≤ m → (n < m) ⊎ (n ≡ m)
 le_cases zero zero h = inr refl
 le_cases zero (suc m) h = inl (omega arith)
 le_cases (suc n) zero h = absurd (omega arith)
@@ -52,6 +55,7 @@ filter_front p (x ∷ xs) (suc i) front back =
     (ap (λ ys. x ∷ ys) (filter_front p xs i (λ k d a b. front (suc k) d (omega arith) (omega arith))
     (λ k d a b. back (suc k) d (omega arith) (omega arith))))
 
+-- and at the back alone
 pub filter_back : {X : Type 0} (p : X → Bool) (xs : List X) (i : ℕ) → AllWithin (λ x. p x ≡ false) xs 0 i →
     AllWithin (λ x. p x ≡ true) xs i (length xs) → filter p xs ≡ drop i xs
 filter_back p [] zero front back = refl
@@ -77,12 +81,14 @@ path_at : (files : List FileEntry) (i : ℕ) (path : List ℕ) → i < length fi
     get_or (paths_of files) i path ≡ (get_or files i (some_file path)).path
 path_at files i path lt = get_or-map (λ f. f.path) files i (some_file path) path lt
 
+-- paths that rise are files that follow one another
 pub files_rise : (files : List FileEntry) → Rising (paths_of files) → AllPairs Follows files
 files_rise files rise i j d lt within =
     let h : IsBefore (get_or (paths_of files) i d.path) (get_or (paths_of files) j d.path) =
     rise i j d.path lt (simp length-map (omega arith)) in
     rw (get_or-map (λ f. f.path) files i d d.path (omega arith), get_or-map (λ f. f.path) files j d d.path within) at h
 
+-- files that follow one another have paths that rise
 pub paths_rise : (files : List FileEntry) → AllPairs Follows files → Rising (paths_of files)
 paths_rise files rise i j d lt within =
     let in' : j < length files = simp length-map at within in
@@ -97,6 +103,7 @@ module _ (files : List FileEntry) (path : List ℕ) (rise : Rising (paths_of fil
       ∙ (rw same at h) in rw l (omega arith)
   steps a b o Greater e f h = index_at_most o
 
+  -- so a binary search for the path finds its place
   pub answers_rise : IsNonDecreasingBy (λ f. ordering_index (order f.path path)) files
   answers_rise i j d le within = elim (le_cases i j le) [
     | inl lt ↦ steps (get_or files i d).path (get_or files j d).path _ _ refl refl
@@ -127,9 +134,11 @@ module _ (files : List FileEntry) (path : List ℕ) (rise : Rising (paths_of fil
       | inr e ↦ rw e (ap is_gt (is d))
     ]
 
+    -- a file with the path is at the place that was found
     pub found_path : HasPath files path
     found_path = (i, simp length-map within, path_at files i path within ∙ at_place (some_file path))
 
+    -- what is found is the place of the file with the path
     pub found_place : IsPlace files path i (i + 1)
     found_place = record {
       within = omega arith;
@@ -146,6 +155,7 @@ module _ (files : List FileEntry) (path : List ℕ) (rise : Rising (paths_of fil
     lt_or zero (suc n) = inl (omega arith)
     lt_or (suc k) (suc n) = elim (lt_or k n) [ inl a ↦ inl (omega arith) | inr a ↦ inr (omega arith) ]
 
+    -- no file has a path that was not found
     pub no_path : HasPath files path → ⊥
     no_path has =
         let lt : has.0 < length files = simp length-map at has.1 in
@@ -156,6 +166,7 @@ module _ (files : List FileEntry) (path : List ℕ) (rise : Rising (paths_of fil
               not_before_itself path (after_is path path g)
         ]
 
+    -- what is found then is where a file with the path would stand
     pub missing_place : IsPlace files path i i
     missing_place = record {
       within = within;
@@ -187,11 +198,13 @@ gt_is Equal h = cc
 gt_is Greater h = refl
 
 module _ (files : List FileEntry) (path : List ℕ) where
+  -- files before a path come before it
   pub all_before : All (λ f. IsBefore f.path path) (files_before path files)
   all_before = All-weaker (λ f. is_lt (order f.path path) ≡ true) (λ f. IsBefore f.path path)
       (λ f h. lt_is (order f.path path) h) (files_before path files)
       (filter_passes (λ f. is_lt (order f.path path)) files)
 
+  -- files after a path come after it
   pub all_after : All (λ f. IsBefore path f.path) (files_after path files)
   all_after = All-weaker (λ f. is_gt (order f.path path) ≡ true) (λ f. IsBefore path f.path)
       (λ f h. after_is f.path path (gt_is (order f.path path) h)) (files_after path files)
@@ -203,6 +216,7 @@ module _ (files : List FileEntry) (path : List ℕ) where
       (λ g l. nat_list_cmp_total.trans f.path path g.path h l) (files_after path files) all_after)
       (files_before path files) all_before
 
+  -- files stay in order where one is taken out
   pub without_rises : Rising (paths_of files) → Rising (paths_of (without_file path files))
   without_rises rise = paths_rise (without_file path files)
       (AllPairs-append Follows (files_before path files) (files_after path files)
@@ -210,6 +224,7 @@ module _ (files : List FileEntry) (path : List ℕ) where
       (AllPairs-filter Follows (λ f. is_gt (order f.path path)) files (files_rise files rise))
       across_path)
 
+-- files stay in order where one is put in its place
 pub with_rises : (files : List FileEntry) (file : FileEntry) → Rising (paths_of files) →
     Rising (paths_of (with_file file files))
 with_rises files file rise = paths_rise (with_file file files)
@@ -227,16 +242,19 @@ set_at_place files file i place =
     let after : files_after file.path files ≡ drop (suc i) files = rw add-one at place.after in
     rw (place.before, after) (set_split files i file (let h = place.within in omega arith))
 
+-- a new file at its place
 pub insert_at_place : (files : List FileEntry) (file : FileEntry) (i : ℕ) → IsPlace files file.path i i →
     insert files i file ≡ with_file file files
 insert_at_place files file i place = rw (place.before, place.after) refl
 
+-- a file taken out of its place
 pub remove_at_place : (files : List FileEntry) (path : List ℕ) (i : ℕ) → IsPlace files path i (i + 1) →
     remove files i ≡ without_file path files
 remove_at_place files path i place =
     let after : files_after path files ≡ drop (suc i) files = rw add-one at place.after in
     rw (place.before, after) refl
 
+-- nothing is taken out where there is no such file
 pub none_at_place : (files : List FileEntry) (path : List ℕ) (i : ℕ) → IsPlace files path i i →
     files ≡ without_file path files
 none_at_place files path i place = rw (place.before, place.after) (sym (take-append-drop i files))

@@ -5,6 +5,7 @@ use Rattle.std.proofs.Math.Seq.{take-add}
 use Rattle.std.proofs.lemmas.List.{take_rest}
 use Rattle.outside.specs.Told.{appended}
 
+-- bytes told in two parts are told as one
 pub appended-appended : {T : Type 0} (told : Option (List T)) (first more : List T) →
     appended (appended told first) more ≡ appended told (first ++ more)
 appended-appended None first more = refl

@@ -7,7 +7,7 @@ use Rattle.std.proofs.lemmas.List.Elements.{All-cons, All-head, All-tail, All-ap
 use Rattle.std.proofs.lemmas.List.Elements.{All-contains, All-contains_itself, Contains-get_or, Contains-push_cases}
 use Rattle.outside.specs.Order.{Rising}
 use Rattle.outside.specs.Watched.{IsWatched, ListsWatched}
-use Rattle.outside.specs.Tree.{Given, IsKnown, AgreesOnStamps, paths_of, stamps_of}
+use Rattle.outside.specs.Tree.{Given, IsKnown, IsSized, AgreesOnStamps, HoldsWatched, paths_of, stamps_of}
 use Rattle.outside.specs.Table.{files_before, files_after, with_file, without_file}
 use Rattle.outside.specs.MemTree.{TreeState}
 use Rattle.outside.specs.Glance.{given_of, IsSeen, IsNumbered}
@@ -16,25 +16,30 @@ use Rattle.outside.specs.declared.files.Stamp.{Stamp}
 use Rattle.outside.specs.declared.glance.Glance.{Glance}
 
 -- ---- what an edit leaves
-without_all : (P : FileEntry → Type 0) (path : List ℕ) (files : List FileEntry) → All P files →
+-- what holds of all files holds of them without one
+pub without_all : (P : FileEntry → Type 0) (path : List ℕ) (files : List FileEntry) → All P files →
     All P (without_file path files)
 without_all P path files all = All-append P (files_before path files) (files_after path files)
     (All-filter _ P files all) (All-filter _ P files all)
 
+-- what holds of all files and of one more holds of them with that one
 pub with_all : (P : FileEntry → Type 0) (file : FileEntry) (files : List FileEntry) → P file → All P files →
     All P (with_file file files)
 with_all P file files here all =
     All-append P (files_before file.path files) (file ∷ files_after file.path files) (All-filter _ P files all)
     (All-cons P file (files_after file.path files) here (All-filter _ P files all))
 
+-- files are watched without one of them
 pub without_watched : (path : List ℕ) (files : List FileEntry) → All (λ f. IsWatched f.path) files →
     All (λ f. IsWatched f.path) (without_file path files)
 without_watched path files all = without_all (λ f. IsWatched f.path) path files all
 
+-- watched files whose paths rise are listed
 pub lists_watched : (files : List FileEntry) → All (λ f. IsWatched f.path) files → Rising (paths_of files) →
     ListsWatched (paths_of files)
 lists_watched files all rise = record { watched = All-map IsWatched (λ f. f.path) files all; rising = rise }
 
+-- the same of the files that a tree is seen to hold
 pub held_watched : (files held : List FileEntry) → files ≡ held → All (λ f. IsWatched f.path) files →
     Rising (paths_of files) → ListsWatched (paths_of held)
 held_watched files held same all rise = subst (λ (fs : List FileEntry). ListsWatched (paths_of fs)) same
@@ -51,6 +56,7 @@ paths_of_stamps : (files : List FileEntry) → map (λ s. s.0) (stamps_of files)
 paths_of_stamps [] = refl
 paths_of_stamps (file ∷ files) = ap (λ paths. file.path ∷ paths) (paths_of_stamps files)
 
+-- the stamps of watched files are those of watched files
 pub stamps_watched : (files : List FileEntry) (stamps : List (List ℕ × Stamp)) → stamps ≡ stamps_of files →
     ListsWatched (paths_of files) → ListsWatched (map (λ s. s.0) stamps)
 stamps_watched files stamps is watched =
@@ -67,6 +73,7 @@ fewer held held' glances glances' writes part is = record {
   unique = λ f g seen also. is.unique f g (part f seen) (part g also);
 }
 
+-- a removal keeps the numbers of writes
 pub numbered-without : (path : List ℕ) (held : List FileEntry) (glances : List Glance) (writes : ℕ) →
     IsNumbered held glances writes → IsNumbered (without_file path held) glances writes
 numbered-without path held glances writes = fewer held (without_file path held) glances glances writes
@@ -76,6 +83,7 @@ numbered-without path held glances writes = fewer held (without_file path held) 
       | inr was ↦ inr was
     ])
 
+-- a call keeps the numbers of writes
 pub numbered-given : (held : List FileEntry) (glances : List Glance) (glance : Glance) (writes : ℕ) →
     glance.files ≡ held
     → IsNumbered held glances writes → IsNumbered held (glances ++ glance ∷ []) writes
@@ -89,6 +97,7 @@ numbered-given held glances glance writes same = fewer held held glances (glance
       ]
     ])
 
+-- a write of a file that is not watched keeps the numbers of writes
 pub numbered-next : (held : List FileEntry) (glances : List Glance) (writes next : ℕ) → next ≡ writes + 1 →
     IsNumbered held glances writes → IsNumbered held glances next
 numbered-next held glances writes next one is = record {
@@ -123,6 +132,7 @@ module _ (file : FileEntry) (held : List FileEntry) (glances : List Glance) (wri
       ap (λ z. z.stamp.time) new in absurd (omega arith)
   same_bytes f g (inr new) (inr also) e = ap (λ z. z.bytes) (new ∙ sym also)
 
+  -- a write of a watched file has the next number
   pub numbered-with : IsNumbered (with_file file held) glances (writes + 1)
   numbered-with = record {
     numbered = λ f seen. at_most f (seen_with f seen);
@@ -154,6 +164,7 @@ known_seen held glances f (inr given) =
           (subst P (sym is) given.4),
     )
 
+-- files numbered by their writes agree on their stamps
 pub agrees : (held : List FileEntry) (glances : List Glance) (writes : ℕ) → IsNumbered held glances writes →
     AgreesOnStamps (Some held) (Some (map given_of glances))
 agrees held glances writes is f g known also path stamp =

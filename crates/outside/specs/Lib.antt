@@ -3,11 +3,12 @@ pub mod Faults
 pub mod Told
 pub mod ReadAns
 pub mod WriteAns
-pub mod Written
+pub mod Delivery
 pub mod Watched
 pub mod Tree
 pub mod StampsAns
 pub mod TreeAns
+pub mod Limits
 pub mod CallState
 pub mod Calls
 pub mod MemoryStates

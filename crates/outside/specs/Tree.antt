@@ -1,5 +1,7 @@
 -- What a tree of files holds and gave.
-use Rattle.std.specs.Prelude.{◌≡◌, ◌⊎◌, ℕ, List, Option, Some, None, map, Any, Contains, IsSomeAnd, ⊤}
+use Rattle.std.specs.Prelude.{◌≡◌, ◌⊎◌, ℕ, ◌≤◌, List, Option, Some, None, map, length, Any, Contains, IfSome, IsSomeAnd}
+use Rattle.std.specs.Prelude.{⊤}
+use Rattle.outside.specs.Watched.{ListsWatched}
 use Rattle.outside.specs.declared.files.FileEntry.{FileEntry}
 use Rattle.outside.specs.declared.files.Stamp.{Stamp}
 
@@ -10,6 +12,14 @@ paths_of files = map (λ f. f.path) files
 -- the stamps of files, each with its path
 abbrev pub stamps_of : List FileEntry → List (List ℕ × Stamp)
 stamps_of files = map (λ f. (f.path, f.stamp)) files
+
+-- the file has no more bytes than its stamp says
+abbrev pub IsSized : FileEntry → Type 0
+IsSized file = length file.bytes ≤ file.stamp.length
+
+-- where a tree tells what it holds, these are watched files in the order of their paths
+abbrev pub HoldsWatched : (held : Option (List FileEntry)) → Type 0
+HoldsWatched held = IfSome held (λ files. ListsWatched (paths_of files))
 
 -- one answer of a tree: the stamps that it gave and, where the files were read, the files
 pub record Given : Type 0 where

@@ -1,8 +1,8 @@
 -- What the answer of a read of all files says of a tree.
-use Rattle.std.specs.Prelude.{◌≡◌, Bool, true, false, List, [], ◌∷◌, Option, Some, IfSome, ⊤}
+use Rattle.std.specs.Prelude.{◌≡◌, Bool, true, false, List, [], ◌∷◌, Option, Some, IfSome, All, ⊤}
 use Rattle.outside.specs.Watched.{ListsWatched}
 use Rattle.outside.specs.MemTree.{TreeState, after_giving, after_failing}
-use Rattle.outside.specs.Tree.{Given, stamps_of, paths_of}
+use Rattle.outside.specs.Tree.{Given, IsSized, stamps_of, paths_of}
 use Rattle.outside.specs.declared.files.FileEntry.{FileEntry}
 use Rattle.outside.specs.declared.answers.TreeAns.{TreeAns}
 use Rattle.outside.specs.declared.answers.TreeAns.TheVariants.{Read, Failed, Memory}
@@ -23,6 +23,12 @@ abbrev pub FilesAreWatched : TreeAns → Type 0
 FilesAreWatched (Read snapshot) = ListsWatched (paths_of snapshot.files)
 FilesAreWatched Failed = ⊤
 FilesAreWatched Memory = ⊤
+
+-- no file has more bytes than its stamp says
+abbrev pub FilesAreSized : TreeAns → Type 0
+FilesAreSized (Read snapshot) = All IsSized snapshot.files
+FilesAreSized Failed = ⊤
+FilesAreSized Memory = ⊤
 
 -- where the tree tells, they are what it holds
 abbrev pub FilesAre : TreeAns → (held : Option (List FileEntry)) → Type 0

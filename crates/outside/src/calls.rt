@@ -46,14 +46,14 @@ impl Calls {
     }
 
     /// Counts a call that didn't fail.
-    pub fn pass(&mut self)
+    pub fn count_passed(&mut self)
         ensures { self.new ≡ counted false self.old }
     {
         self.made = self.made.saturating_add(1);
     }
 
     /// Counts a call that failed.
-    pub fn fail(&mut self)
+    pub fn count_failed(&mut self)
         ensures counted { self.new ≡ counted true self.old }
         ensures rose { Rose self.old.faults self.new.faults }
     {

@@ -30,7 +30,7 @@ impl Model for FileTable {
     ghost invariant = { λ t. Rising (paths_of t.files.items) };
 }
 
-fn search(files: &[FileEntry], path: &[u8]) -> Result<usize, usize>
+fn search_path(files: &[FileEntry], path: &[u8]) -> Result<usize, usize>
     ensures bound { IsSearchInRange result (length files.now) }
     ensures position { IsBinarySearchResult (λ f. order f.path path.now) files.now result }
 {
@@ -47,7 +47,7 @@ fn place_of(files: &[FileEntry], path: &[u8]) -> Result<usize, usize>
     ensures found { IfOk result (λ i. HasPath files.now path.now × IsPlace files.now path.now i (i + 1)) }
     ensures missing { IfErr result (λ i. (¬ HasPath files.now path.now) × IsPlace files.now path.now i i) }
 {
-    match search(files, path) {
+    match search_path(files, path) {
         Ok(place) => Ok(place),
         Err(place) => Err(place),
     }

@@ -65,10 +65,10 @@ impl Source for MemSource {
         ensures same { self.new.piece ≡ self.old.piece }
     {
         if self.calls.is_due() {
-            self.calls.fail();
+            self.calls.count_failed();
             return ReadAns::Failed;
         }
-        self.calls.pass();
+        self.calls.count_passed();
         let left = &self.bytes.as_bytes()[self.taken..];
         let count = left.len().min(self.piece.min(into.len()));
         if count == 0 {

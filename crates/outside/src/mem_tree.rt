@@ -1,15 +1,17 @@
-ghost use Rattle.std.specs.Prelude.{◌≡◌, ◌↔◌, ◌⊎◌, ◌+◌, [], ◌∷◌, map, length, Some, None, cond, is_some, refl, IsTrue};
+ghost use Rattle.std.specs.Prelude.{◌≡◌, ◌↔◌, ◌⊎◌, ◌+◌, [], ◌∷◌, map, length, All, Some, None, cond, is_some, refl};
+ghost use Rattle.std.specs.Prelude.{IsTrue};
 ghost use Rattle.std.specs.Prelude.{IfOk, OnOk, OnErr};
 ghost use Rattle.outside.specs.Faults.{Counts};
 ghost use Rattle.outside.specs.Told.{appended};
 ghost use Rattle.outside.specs.Calls.{IsDue};
 ghost use Rattle.outside.specs.Watched.{IsWatched, ListsWatched};
 ghost use Rattle.outside.specs.Order.{Rising};
-ghost use Rattle.outside.specs.Tree.{Given, AgreesOnStamps, paths_of, stamps_of};
+ghost use Rattle.outside.specs.Tree.{Given, AgreesOnStamps, HoldsWatched, IsSized, paths_of, stamps_of};
 ghost use Rattle.outside.specs.Table.{HasPath};
 ghost use Rattle.outside.specs.MemTree.{Writes, empty_tree, with_held, with_other, without_path, after_giving};
 ghost use Rattle.outside.specs.StampsAns.{stamps_failed, stamps_given, StampsAreWatched, StampsAreOf, after_stamps};
-ghost use Rattle.outside.specs.TreeAns.{tree_failed, files_given, FilesAreWatched, FilesAre, after_files};
+ghost use Rattle.outside.specs.TreeAns.{tree_failed, files_given, FilesAreWatched, FilesAreSized, FilesAre};
+ghost use Rattle.outside.specs.TreeAns.{after_files};
 
 use crate::answers::{StampsAns, TreeAns};
 use crate::calls::Calls;
@@ -43,6 +45,8 @@ impl Model for MemTree {
 
     ghost use Rattle.std.specs.Prelude.{◌≡◌, map, All, IfSome};
     ghost use Rattle.outside.specs.Watched.{IsWatched};
+    ghost use Rattle.outside.specs.Order.{Rising};
+    ghost use Rattle.outside.specs.Tree.{IsSized, paths_of};
     ghost use Rattle.outside.specs.Glance.{given_of, IsNumbered};
 
     ghost view = { λ t. record {
@@ -55,10 +59,12 @@ impl Model for MemTree {
 
     ghost invariant = { λ t. All (λ f. IsWatched f.path) t.watched
         × IfSome t.shown (λ files. files ≡ t.watched)
-        × IsNumbered t.watched t.given.items t.writes };
+        × IsNumbered t.watched t.given.items t.writes
+        × Rising (paths_of t.watched)
+        × All IsSized t.watched };
 }
 
-fn either(first: bool, second: bool) -> bool
+fn is_either(first: bool, second: bool) -> bool
     ensures { IsTrue result ↔ (IsTrue first ⊎ IsTrue second) }
 {
     first || second
@@ -117,6 +123,7 @@ impl MemTree {
 
     fn put_watched(&mut self, file: FileEntry) -> Result<(), AllocError>
         requires watched { IsWatched file.path }
+        requires sized { IsSized file }
         requires next { file.stamp.time ≡ self.old.writes + 1 }
         ensures ok { OnOk result (self.new ≡ with_held file self.old) }
         ensures err { OnErr result (self.new ≡ self.old) }
@@ -147,13 +154,14 @@ impl MemTree {
         let was_watched = self.watched.remove(path.as_bytes());
         let was_other = self.others.remove(path.as_bytes());
         self.shown = None;
-        either(was_watched, was_other)
+        is_either(was_watched, was_other)
     }
 
     /// The watched files, in a list that is shared with the calls before and after, up to the next edit.
-    fn show(&mut self) -> Result<SharedList<FileEntry>, AllocError>
+    fn share_watched(&mut self) -> Result<SharedList<FileEntry>, AllocError>
         ensures files { IfOk result (λ files. files ≡ self.old.held) }
         ensures watched { ListsWatched (paths_of self.old.held) }
+        ensures sized { All IsSized self.old.held }
         ensures same { self.new ≡ self.old }
         ensures agrees { AgreesOnStamps (Some self.old.held) (Some self.old.given) }
     {
@@ -169,7 +177,7 @@ impl MemTree {
     }
 
     /// Keeps what is given, and counts the call.
-    fn note(&mut self, files: SharedList<FileEntry>, whole: bool) -> Result<(), AllocError>
+    fn keep_given(&mut self, files: SharedList<FileEntry>, whole: bool) -> Result<(), AllocError>
         requires { files ≡ self.old.held }
         ensures ok { OnOk result (self.new ≡ after_giving
             (record { stamps = stamps_of files; snapshot = cond whole (Some files) None } ∷ []) self.old) }
@@ -177,35 +185,38 @@ impl MemTree {
         ensures agrees { AgreesOnStamps (Some self.new.held) (Some self.new.given) }
     {
         self.given.push(Glance { files, whole })?;
-        self.calls.pass();
+        self.calls.count_passed();
         Ok(())
     }
 
     fn give_stamps(&mut self) -> Result<Stamps, AllocError>
         ensures stamps { IfOk result (λ stamps. stamps ≡ stamps_of self.old.held) }
         ensures watched { ListsWatched (paths_of self.old.held) }
+        ensures holds_watched { HoldsWatched (Some self.new.held) }
         ensures ok { IfOk result
             (λ stamps. self.new ≡ after_giving (record { stamps = stamps; snapshot = None } ∷ []) self.old) }
         ensures err { OnErr result (self.new ≡ self.old) }
         ensures agrees { AgreesOnStamps (Some self.new.held) (Some self.new.given) }
     {
-        let files = self.show()?;
+        let files = self.share_watched()?;
         let stamps = copy_stamps(self.alloc, files.as_slice())?;
-        self.note(files, false)?;
+        self.keep_given(files, false)?;
         Ok(stamps)
     }
 
     fn give_files(&mut self) -> Result<Snapshot, AllocError>
         ensures files { IfOk result (λ snapshot. snapshot.files ≡ self.old.held) }
         ensures watched { ListsWatched (paths_of self.old.held) }
+        ensures sized { All IsSized self.old.held }
+        ensures holds_watched { HoldsWatched (Some self.new.held) }
         ensures ok { IfOk result (λ snapshot. self.new ≡ after_giving
             (record { stamps = stamps_of snapshot.files; snapshot = Some snapshot.files } ∷ []) self.old) }
         ensures err { OnErr result (self.new ≡ self.old) }
         ensures agrees { AgreesOnStamps (Some self.new.held) (Some self.new.given) }
     {
-        let files = self.show()?;
+        let files = self.share_watched()?;
         let copied: FileEntries = Listed::from_slice(self.alloc, files.as_slice())?;
-        self.note(files, true)?;
+        self.keep_given(files, true)?;
         Ok(Snapshot { files: copied })
     }
 }
@@ -222,6 +233,7 @@ impl Tree for MemTree {
         ensures held { StampsAreOf result (Some self.new.held) }
         ensures given { Some self.new.given ≡ appended (Some self.old.given) (stamps_given result) }
         ensures tells { is_some (Some self.new.held) ≡ is_some (Some self.old.held) }
+        ensures holds_watched { HoldsWatched (Some self.new.held) }
         ensures same_contents { AgreesOnStamps (Some self.new.held) (Some self.new.given) }
         ensures faults { Counts (stamps_failed result) self.old.calls.faults self.new.calls.faults }
 
@@ -230,7 +242,7 @@ impl Tree for MemTree {
         ensures after { self.new ≡ after_stamps result self.old }
     {
         if self.calls.is_due() {
-            self.calls.fail();
+            self.calls.count_failed();
             return StampsAns::Failed;
         }
         match self.give_stamps() {
@@ -241,9 +253,11 @@ impl Tree for MemTree {
 
     fn read_all(&mut self) -> TreeAns
         ensures watched { FilesAreWatched result }
+        ensures sized { FilesAreSized result }
         ensures held { FilesAre result (Some self.new.held) }
         ensures given { Some self.new.given ≡ appended (Some self.old.given) (files_given result) }
         ensures tells { is_some (Some self.new.held) ≡ is_some (Some self.old.held) }
+        ensures holds_watched { HoldsWatched (Some self.new.held) }
         ensures same_contents { AgreesOnStamps (Some self.new.held) (Some self.new.given) }
         ensures faults { Counts (tree_failed result) self.old.calls.faults self.new.calls.faults }
 
@@ -251,7 +265,7 @@ impl Tree for MemTree {
         ensures after { self.new ≡ after_files result self.old }
     {
         if self.calls.is_due() {
-            self.calls.fail();
+            self.calls.count_failed();
             return TreeAns::Failed;
         }
         match self.give_files() {

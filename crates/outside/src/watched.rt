@@ -1,6 +1,9 @@
 ghost use Rattle.std.specs.Prelude.{◌↔◌, IsTrue};
 ghost use Rattle.outside.specs.Watched.{IsWatched, BeginsWith, EndsWith};
 
+/// The path of the configuration file.
+pub const CONFIGURATION_PATH: &str = "config/loader.conf";
+
 fn begins_with(path: &[u8], first: &[u8]) -> bool
     ensures { IsTrue result ↔ BeginsWith first.now path.now }
 {
@@ -17,6 +20,6 @@ fn ends_with(path: &[u8], last: &[u8]) -> bool
 pub fn is_watched(path: &[u8]) -> bool
     ensures { IsTrue result ↔ IsWatched path.now }
 {
-    path == b"config/loader.conf".as_slice()
+    path == CONFIGURATION_PATH.as_bytes()
         || (begins_with(path, b"app/") || begins_with(path, b"lib/")) && ends_with(path, b".rb")
 }

@@ -10,4 +10,6 @@ invariant_of-self-2 c =
       c.self.invariant.1,
       numbered-next c.self.inside.watched c.self.inside.given.items c.self.inside.writes c.args.file.stamp.time
           next c.self.invariant.2,
+      c.self.invariant.3,
+      c.self.invariant.4,
     )

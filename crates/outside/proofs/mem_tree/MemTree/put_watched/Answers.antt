@@ -3,6 +3,9 @@ use Rattle.outside.specs.Watched.{IsWatched}
 use Rattle.outside.specs.Table.{with_file}
 use Rattle.outside.specs.Glance.{IsNumbered}
 use Rattle.outside.specs.declared.files.FileEntry.{FileEntry}
+use Rattle.outside.specs.Order.{Rising}
+use Rattle.outside.specs.Tree.{IsSized, paths_of}
+use Rattle.outside.proofs.TableLaws.{with_rises}
 use Rattle.outside.proofs.TreeLaws.{with_all, numbered-with}
 use Rattle.outside.proofs.mem_tree.MemTree.put_watched.Goals as goal
 
@@ -20,4 +23,8 @@ invariant_of-self-2 c =
           (with_all (λ f. IsWatched f.path) c.args.file c.self.inside.watched c.requires.watched c.self.invariant.0),
       tt,
       subst (λ (fs : List FileEntry). IsNumbered fs c.self.inside.given.items c.args.file.stamp.time) (sym is) numbered,
+      subst (λ (fs : List FileEntry). Rising (paths_of fs)) (sym is)
+          (with_rises c.self.inside.watched c.args.file c.self.invariant.3),
+      subst (λ (fs : List FileEntry). All IsSized fs) (sym is)
+          (with_all IsSized c.args.file c.self.inside.watched c.requires.sized c.self.invariant.4),
     )

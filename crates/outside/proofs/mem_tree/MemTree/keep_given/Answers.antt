@@ -3,7 +3,7 @@ use Rattle.outside.specs.Tree.{AgreesOnStamps}
 use Rattle.outside.specs.Glance.{given_of, IsNumbered}
 use Rattle.outside.specs.declared.glance.Glance.{Glance}
 use Rattle.outside.proofs.TreeLaws.{agrees, numbered-given}
-use Rattle.outside.proofs.mem_tree.MemTree.note.Goals as goal
+use Rattle.outside.proofs.mem_tree.MemTree.keep_given.Goals as goal
 
 pub returns-in_err-push-clause-agrees : goal.returns-in_err-push-clause-agrees
 returns-in_err-push-clause-agrees c =
@@ -20,6 +20,8 @@ invariant_of-self-2 c =
           (sym c.in_ok-push.ensures.items)
           (numbered-given c.self.inside.watched c.self.inside.given.items
           (record { files = c.args.files; whole = c.args.whole }) c.self.inside.writes same c.self.invariant.2),
+      c.self.invariant.3,
+      c.self.invariant.4,
     )
 
 pub returns-clause-agrees : goal.returns-clause-agrees

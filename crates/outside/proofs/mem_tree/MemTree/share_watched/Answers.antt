@@ -1,6 +1,6 @@
 use Rattle.std.proofs.Common.{ap}
 use Rattle.outside.proofs.TreeLaws.{held_watched, agrees_as}
-use Rattle.outside.proofs.mem_tree.MemTree.show.Goals as goal
+use Rattle.outside.proofs.mem_tree.MemTree.share_watched.Goals as goal
 
 pub returns-in_err-files-in-None-clause-watched : goal.returns-in_err-files-in-None-clause-watched
 returns-in_err-files-in-None-clause-watched c = held_watched c.self.inside.watched c.args.self.now.held

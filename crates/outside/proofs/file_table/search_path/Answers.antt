@@ -1,7 +1,7 @@
 use Rattle.std.proofs.Common.{rules}
 use Rattle.std.proofs.lemmas.Fn.{always_returns_same}
 use Rattle.outside.specs.Order.{order}
-use Rattle.outside.proofs.file_table.search.Goals as goal
+use Rattle.outside.proofs.file_table.search_path.Goals as goal
 
 -- the closure compares a file's path with the path
 pub returns-clause-position : goal.returns-clause-position
