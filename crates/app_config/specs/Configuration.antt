@@ -1,5 +1,5 @@
 -- A configuration as a whole, and its faults.
-use Rattle.std.specs.Prelude.{◌≡◌, ℕ, ◌+◌, List, [], ◌∷◌, ◌++◌, Option, Some, None, Result, Ok, Err}
+use Rattle.std.specs.Prelude.{◌≡◌, ℕ, codes, ◌+◌, List, [], ◌∷◌, ◌++◌, Option, Some, None, Result, Ok, Err}
 use Rattle.std.specs.List.{flat_map, filter_map}
 use Rattle.app_config.specs.Text.{lines}
 use Rattle.app_config.specs.Entries.{meaning}
@@ -10,6 +10,10 @@ use Rattle.app_config.specs.declared.config.RootLine.{RootLine}
 use Rattle.app_config.specs.declared.config.LoadLine.{LoadLine}
 use Rattle.app_config.specs.declared.config.ConfigFault.{ConfigFault}
 use Rattle.app_config.specs.declared.config.ConfigKind.{ConfigKind}
+
+-- the path of the configuration's file
+abbrev pub configuration_path : List ℕ
+configuration_path = codes "config/loader.conf"
 
 abbrev pub root_of : Entry → Option RootLine
 root_of (Root line) = Some line

@@ -5,17 +5,17 @@ use Rattle.app_config.specs.declared.config.ConfigKind.TheVariants as kind
 use Rattle.tree_scan.specs.declared.fault.ScanFault.{ScanFault}
 use Rattle.tree_scan.specs.declared.fault.ScanFault.TheVariants as scan
 use Rattle.tree_report.specs.declared.refusal.Refusal.TheVariants.{Configuration, BadName, TwoRoots}
-use Rattle.tree_command.specs.declared.fault.TreeFault.{TreeFault}
-use Rattle.tree_command.specs.declared.fault.TreeFault.TheVariants.{Refused, Memory}
+use Rattle.tree_command.specs.declared.fault.ListingFault.{ListingFault}
+use Rattle.tree_command.specs.declared.fault.ListingFault.TheVariants.{Refused, Memory}
 
-abbrev pub told : ConfigKind → ConfigFault → TreeFault
+abbrev pub told : ConfigKind → ConfigFault → ListingFault
 told kind.Memory fault = Memory
 told _ fault = Refused (Configuration fault)
 
-abbrev pub of_configuration : ConfigFault → TreeFault
+abbrev pub of_configuration : ConfigFault → ListingFault
 of_configuration fault = told fault.kind fault
 
-abbrev pub of_scan : ScanFault → TreeFault
+abbrev pub of_scan : ScanFault → ListingFault
 of_scan (scan.TwoRoots path) = Refused (TwoRoots path)
 of_scan (scan.BadName path) = Refused (BadName path)
 of_scan scan.Memory = Memory

@@ -20,8 +20,8 @@ use Rattle.tree_report.specs.declared.listing.Place.{Place}
 use Rattle.tree_report.specs.declared.listing.Place.TheVariants.{File, Explicit, Namespace}
 use Rattle.tree_report.specs.declared.refusal.Refusal.{Refusal}
 use Rattle.tree_report.specs.declared.refusal.Refusal.TheVariants.{Limit, Configuration, BadName, TwoRoots}
-use Rattle.tree_command.specs.declared.fault.TreeFault.{TreeFault}
-use Rattle.tree_command.specs.declared.fault.TreeFault.TheVariants.{Refused, Memory}
+use Rattle.tree_command.specs.declared.fault.ListingFault.{ListingFault}
+use Rattle.tree_command.specs.declared.fault.ListingFault.TheVariants.{Refused, Memory}
 
 -- a site, with its file's path in place of the file's number
 abbrev pub place_of : List FileEntry → Site → Place
@@ -67,6 +67,6 @@ IsRefused files (BadName path) = HasScanFault files (λ config. IsFault files co
 IsRefused files (TwoRoots path) = HasScanFault files (λ config. IsFault files config (scan.TwoRoots path))
 
 -- the application is refused for this, or memory ran out
-abbrev pub IsTreeFault : List FileEntry → TreeFault → Type 0
+abbrev pub IsTreeFault : List FileEntry → ListingFault → Type 0
 IsTreeFault files (Refused refusal) = IsRefused files refusal
 IsTreeFault files Memory = ⊤

@@ -7,45 +7,45 @@ use tree_scan::ScanFault;
 
 /// Why an application has no listing.
 #[derive(Drop)]
-pub enum TreeFault {
+pub enum ListingFault {
     Refused(Refusal),
     /// Memory ran out.
     Memory,
 }
 
-impl From<AllocError> for TreeFault {
-    ghost use Rattle.tree_command.specs.declared.fault.TreeFault.TheVariants.{Memory};
+impl From<AllocError> for ListingFault {
+    ghost use Rattle.tree_command.specs.declared.fault.ListingFault.TheVariants.{Memory};
 
     ghost from_gives = { λ _ fault. fault ≡ Memory };
 
-    fn from(_error: AllocError) -> TreeFault {
-        TreeFault::Memory
+    fn from(_error: AllocError) -> ListingFault {
+        ListingFault::Memory
     }
 }
 
-impl From<ConfigFault> for TreeFault {
+impl From<ConfigFault> for ListingFault {
     ghost use Rattle.tree_command.specs.Faults.{of_configuration};
 
     ghost from_gives = { λ found fault. fault ≡ of_configuration found };
 
-    fn from(found: ConfigFault) -> TreeFault {
+    fn from(found: ConfigFault) -> ListingFault {
         match found.kind {
-            ConfigKind::Memory => TreeFault::Memory,
-            _ => TreeFault::Refused(Refusal::Configuration(found)),
+            ConfigKind::Memory => ListingFault::Memory,
+            _ => ListingFault::Refused(Refusal::Configuration(found)),
         }
     }
 }
 
-impl From<ScanFault> for TreeFault {
+impl From<ScanFault> for ListingFault {
     ghost use Rattle.tree_command.specs.Faults.{of_scan};
 
     ghost from_gives = { λ found fault. fault ≡ of_scan found };
 
-    fn from(found: ScanFault) -> TreeFault {
+    fn from(found: ScanFault) -> ListingFault {
         match found {
-            ScanFault::TwoRoots(path) => TreeFault::Refused(Refusal::TwoRoots(path)),
-            ScanFault::BadName(path) => TreeFault::Refused(Refusal::BadName(path)),
-            ScanFault::Memory => TreeFault::Memory,
+            ScanFault::TwoRoots(path) => ListingFault::Refused(Refusal::TwoRoots(path)),
+            ScanFault::BadName(path) => ListingFault::Refused(Refusal::BadName(path)),
+            ScanFault::Memory => ListingFault::Memory,
         }
     }
 }

@@ -6,6 +6,6 @@ mod laws;
 mod listing;
 mod rows;
 
-pub use fault::TreeFault;
+pub use fault::ListingFault;
 pub use laws::never_both;
 pub use listing::list_tree;

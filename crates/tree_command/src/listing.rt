@@ -2,7 +2,7 @@ ghost use Rattle.std.specs.Prelude.{IfOk, IfErr};
 ghost use Rattle.tree_report.specs.Limits.{IsWithinLimits};
 ghost use Rattle.tree_command.specs.Tree.{IsTreeListing, IsTreeFault, IsSiteListing};
 
-use crate::fault::TreeFault;
+use crate::fault::ListingFault;
 use crate::rows::listed_sites;
 use outside::{FileEntry, Snapshot};
 use std::alloc::{AllocError, Global};
@@ -18,7 +18,7 @@ fn print_sites(alloc: Global, files: &[FileEntry], sites: &Sites) -> Result<Vec<
 }
 
 /// The listing of an application within the limits.
-fn list_within(alloc: Global, snapshot: &Snapshot) -> Result<Vec<u8>, TreeFault>
+fn list_within(alloc: Global, snapshot: &Snapshot) -> Result<Vec<u8>, ListingFault>
     requires { IsWithinLimits snapshot.now.files }
     ensures listing { IfOk result (λ bytes. IsTreeListing snapshot.now.files bytes.items) }
     ensures fault { IfErr result (IsTreeFault snapshot.now.files) }
@@ -27,17 +27,17 @@ fn list_within(alloc: Global, snapshot: &Snapshot) -> Result<Vec<u8>, TreeFault>
     let config = read_configuration(alloc, files)?;
     match scan(alloc, snapshot, &config) {
         Ok(sites) => Ok(print_sites(alloc, files, &sites)?),
-        Err(fault) => Err(TreeFault::from(fault)),
+        Err(fault) => Err(ListingFault::from(fault)),
     }
 }
 
 /// A line for each constant of the application, in the order of their printed paths, and one for each shadowed file.
-pub fn list_tree(alloc: Global, snapshot: &Snapshot) -> Result<Vec<u8>, TreeFault>
+pub fn list_tree(alloc: Global, snapshot: &Snapshot) -> Result<Vec<u8>, ListingFault>
     ensures listing { IfOk result (λ bytes. IsTreeListing snapshot.now.files bytes.items) }
     ensures fault { IfErr result (IsTreeFault snapshot.now.files) }
 {
     match exceeded_limit(snapshot.files.as_slice()) {
-        Some(exceeded) => Err(TreeFault::Refused(Refusal::Limit(exceeded))),
+        Some(exceeded) => Err(ListingFault::Refused(Refusal::Limit(exceeded))),
         None => list_within(alloc, snapshot),
     }
 }

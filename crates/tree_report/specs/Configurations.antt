@@ -1,15 +1,15 @@
 -- The configuration of an application's files.
-use Rattle.std.specs.Prelude.{◌≡◌, ℕ, Bool, List, [], codes}
+use Rattle.std.specs.Prelude.{◌≡◌, ℕ, Bool, List, []}
 use Rattle.std.specs.List.{find}
 use Rattle.std.specs.Option.{option_map_or}
 use Rattle.std.specs.Str.{bytes_eq}
-use Rattle.app_config.specs.Configuration.{configuration, faults, IsFirst}
+use Rattle.app_config.specs.Configuration.{configuration, configuration_path, faults, IsFirst}
 use Rattle.app_config.specs.declared.config.Config.{Config}
 use Rattle.app_config.specs.declared.config.ConfigFault.{ConfigFault}
 use Rattle.outside.specs.declared.files.FileEntry.{FileEntry}
 
 abbrev pub is_configuration : FileEntry → Bool
-is_configuration file = bytes_eq file.path (codes "config/loader.conf")
+is_configuration file = bytes_eq file.path configuration_path
 
 -- the text of the file `config/loader.conf`; the empty text where there is no such file
 abbrev pub configuration_text : List FileEntry → List ℕ

@@ -1,6 +1,7 @@
 -- The texts that tell why an application's files are not used.
 use Rattle.std.specs.Prelude.{ℕ, List, [], ◌∷◌, ◌++◌, codes}
 use Rattle.std.specs.Fmt.{decimal}
+use Rattle.app_config.specs.Configuration.{configuration_path}
 use Rattle.app_config.specs.declared.config.ConfigFault.{ConfigFault}
 use Rattle.app_config.specs.declared.config.ConfigKind.{ConfigKind}
 use Rattle.app_config.specs.declared.config.ConfigKind.TheVariants.{UnknownWord, WordCount, BadPath, NotUtf8, Memory}
@@ -31,7 +32,7 @@ fault_name Memory = codes "out of memory"
 
 -- `config/loader.conf:2: unknown word`
 abbrev pub fault_text : ConfigFault → List ℕ
-fault_text fault = codes "config/loader.conf:" ++ decimal fault.line ++ codes ": " ++ fault_name fault.kind
+fault_text fault = configuration_path ++ codes ":" ++ decimal fault.line ++ codes ": " ++ fault_name fault.kind
 
 -- `limit: ..`, `config/loader.conf:..`, `bad name: app/lib/foo-bar.rb`, `two roots: lib/x`
 abbrev pub refusal_text : Refusal → List ℕ

@@ -4,14 +4,14 @@ ghost use Rattle.std.specs.Option.{option_map};
 ghost use Rattle.tree_report.specs.Configurations.{is_configuration, configuration_text, IsConfiguration};
 ghost use Rattle.tree_report.specs.Configurations.{IsConfigurationFault};
 
-use app_config::{Config, ConfigFault, ConfigKind, read};
+use app_config::{CONFIGURATION_PATH, Config, ConfigFault, ConfigKind, read};
 use outside::FileEntry;
 use std::alloc::Global;
 
 fn configuration_file(files: &[FileEntry]) -> Option<&FileEntry>
     ensures { option_map (λ f. f.now) result ≡ find is_configuration files.now }
 {
-    files.iter().find(|file| file.path.as_bytes() == b"config/loader.conf".as_slice())
+    files.iter().find(|file| file.path.as_bytes() == CONFIGURATION_PATH.as_bytes())
 }
 
 fn text_of(files: &[FileEntry]) -> &[u8]

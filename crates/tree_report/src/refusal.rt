@@ -3,7 +3,7 @@ ghost use Rattle.std.specs.String.{string_bytes};
 ghost use Rattle.tree_report.specs.Refusals as spec;
 
 use crate::limits::{ExceededLimit, Limit};
-use app_config::{ConfigFault, ConfigKind};
+use app_config::{CONFIGURATION_PATH, ConfigFault, ConfigKind};
 use outside::FilePath;
 use std::alloc::{AllocError, Global};
 
@@ -55,7 +55,7 @@ fn fault_text(alloc: Global, fault: ConfigFault) -> Result<String, AllocError>
 {
     let line = fault.line;
     let name = fault_name(fault.kind);
-    let text = format!(in alloc; "config/loader.conf:{line}: {name}")?;
+    let text = format!(in alloc; "{CONFIGURATION_PATH}:{line}: {name}")?;
     Ok(text)
 }
 

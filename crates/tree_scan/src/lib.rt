@@ -12,4 +12,5 @@ mod spelling;
 pub use fault::ScanFault;
 pub use scanning::scan;
 pub use sites::{FilePaths, Sites};
+pub use tree_scan_names::camelize;
 pub use tree_scan_sites::{Site, SiteRow};

@@ -11,6 +11,7 @@ use app_config::Config;
 use lists::Copying;
 use outside::{FileEntry, FilePath, Snapshot};
 use std::alloc::{AllocError, Global};
+use tree_scan_names::NamingRules;
 use tree_scan_roots::RootTable;
 use tree_scan_sites::SiteTable;
 
@@ -56,7 +57,8 @@ pub fn scan(alloc: Global, snapshot: &Snapshot, config: &Config) -> Result<Sites
 {
     let files = snapshot.files.as_slice();
     let roots = RootTable::new(alloc, files, config.roots.as_slice())?;
-    let spelled = spelled_by(alloc, config, &roots, files)?;
+    let rules = NamingRules::new(alloc, config)?;
+    let spelled = spelled_by(alloc, &rules, &roots, files)?;
     let table = SiteTable::new(alloc, spelled)?;
     let shadowed = paths_of(alloc, files, table.shadowed())?;
     Ok(Sites::of(table, shadowed))

@@ -7,12 +7,11 @@ ghost use Rattle.tree_scan.specs.Spells.{SpellsConstant, Spells, HasBadName};
 ghost use Rattle.tree_scan.specs.Spelling.{SpelledBy, IsNameFault, IsNameFaultOf};
 
 use crate::fault::ScanFault;
-use app_config::Config;
 use lists::Copying;
 use outside::FileEntry;
 use ruby_types::{CPath, Text, TextList};
 use std::alloc::{AllocError, Global};
-use tree_scan_names::{Spelling, names_below};
+use tree_scan_names::{NamingRules, Spelling, names_below};
 use tree_scan_roots::{Root, RootTable};
 use tree_scan_sites::Spelled;
 
@@ -54,21 +53,21 @@ fn root_at(roots: &RootTable, number: u32) -> &Root
 /// The constant that a file spells, if it spells one.
 fn constant_of(
     alloc: Global,
-    config: &Config,
+    rules: &NamingRules,
     roots: &RootTable,
     file: &FileEntry,
 ) -> Result<Option<RootedConstant>, ScanFault>
     ensures exact { IfOk result (λ found. (constant : List (List ℕ)) (root : ℕ) →
-        SpelledBy found constant root ↔ SpellsConstant roots.now config.now file.now.path constant root) }
-    ensures named { OnOk result (¬ (HasBadName roots.now config.now file.now.path)) }
-    ensures fault { IfErr result (IsNameFaultOf roots.now config.now file.now.path) }
+        SpelledBy found constant root ↔ SpellsConstant roots.now rules.now file.now.path constant root) }
+    ensures named { OnOk result (¬ (HasBadName roots.now rules.now file.now.path)) }
+    ensures fault { IfErr result (IsNameFaultOf roots.now rules.now file.now.path) }
 {
     let path = file.path.as_bytes();
     let Some(number) = roots.above(path) else {
         return Ok(None);
     };
     let root = root_at(roots, number);
-    match names_below(alloc, config, path, root.path.len())? {
+    match names_below(alloc, rules, path, root.path.len())? {
         Spelling::Names(names) => Ok(Some(RootedConstant {
             path: joined(alloc, &root.namespace, names.as_slice())?,
             root: number,
@@ -88,19 +87,19 @@ fn add_spelled(spelled: &mut Vec<Spelled>, one: Spelled) -> Result<(), AllocErro
 /// What the files spell, in their order.
 pub(crate) fn spelled_by(
     alloc: Global,
-    config: &Config,
+    rules: &NamingRules,
     roots: &RootTable,
     files: &[FileEntry],
 ) -> Result<Vec<Spelled>, ScanFault>
     requires { length files.now < 2 ^ 32 }
     ensures exact { IfOk result (λ spelled. (constant : List (List ℕ)) (root file : ℕ) →
-        Lists spelled.items constant root file ↔ Spells roots.now config.now files.now constant root file) }
-    ensures named { OnOk result (All (λ f. ¬ (HasBadName roots.now config.now f.path)) files.now) }
-    ensures fault { IfErr result (IsNameFault roots.now config.now files.now) }
+        Lists spelled.items constant root file ↔ Spells roots.now rules.now files.now constant root file) }
+    ensures named { OnOk result (All (λ f. ¬ (HasBadName roots.now rules.now f.path)) files.now) }
+    ensures fault { IfErr result (IsNameFault roots.now rules.now files.now) }
 {
     let mut spelled = Vec::new(alloc);
     'files: for place in 0..files.len() {
-        if let Some(constant) = constant_of(alloc, config, roots, &files[place])? {
+        if let Some(constant) = constant_of(alloc, rules, roots, &files[place])? {
             add_spelled(
                 &mut spelled,
                 Spelled {

@@ -1,4 +1,5 @@
-//! Names from paths: [`camelize`] gives the constant of a base name, [`names_below`] the names that a file's path spells
+//! Names from paths: [`camelize`] gives the constant of a base name, [`names_below`] the names that a file's path
+//! spells
 //! below its root, by the [`NamingRules`] of a configuration.
 #![tactic(auto)]
 

@@ -4,6 +4,7 @@ ghost use Rattle.outside.specs.Tree.{paths_of};
 ghost use Rattle.tree_scan_roots.specs.Directories.{IsName, IsRootName, IsTopRoot, IsConcerns, IsDefaultRoot, IsAbove};
 ghost use Rattle.tree_scan_roots.specs.Keys.{Has};
 
+use app_config::cut;
 use outside::FileEntry;
 use std::alloc::{AllocError, Global};
 use std::collections::BTreeSet;
@@ -11,13 +12,16 @@ use std::collections::BTreeSet;
 /// Directories in the order of their bytes, each once.
 pub(crate) type Directories = BTreeSet<Vec<u8>>;
 
-/// What stands before the first slash of a text, and what stands behind it.
-fn cut(text: &[u8]) -> Option<(&[u8], &[u8])>
-    ensures { MatchOption result (IsName text.now) (λ parts. IsName parts.0.now
-        × (text.now ≡ parts.0.now ++ 47 ∷ parts.1.now)) }
+/// The first name of a path, where a slash stands behind it, and what stands behind that.
+fn first_name(path: &[u8]) -> Option<(&[u8], &[u8])>
+    ensures { MatchOption result (IsName path.now) (λ parts. IsName parts.0.now
+        × (path.now ≡ parts.0.now ++ 47 ∷ parts.1.now)) }
 {
-    let place = text.iter().position(|byte| *byte == b'/')?;
-    Some((&text[..place], &text[place + 1..]))
+    let (name, behind) = cut(path, b'/');
+    match behind {
+        None => None,
+        Some(below) => Some((name, below)),
+    }
 }
 
 fn below_app(path: &[u8]) -> Option<&[u8]>
@@ -35,7 +39,7 @@ fn name_below_app(path: &[u8]) -> Option<(&[u8], &[u8])>
         × (path.now ≡ codes "app/" ++ (parts.0.now ++ 47 ∷ parts.1.now))) }
 {
     match below_app(path) {
-        Some(below) => cut(below),
+        Some(below) => first_name(below),
         None => None,
     }
 }

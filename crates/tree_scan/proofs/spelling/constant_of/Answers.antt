@@ -26,13 +26,13 @@ pub returns-in_ok-joined-in-Names-clause-exact : goal.returns-in_ok-joined-in-Na
 returns-in_ok-joined-in-Names-clause-exact c =
     let l : IsLongestAbove c.args.roots.now c.args.file.now.path c.in-Some.number =
     rw (← c.as_bytes-path.ensures) c.in-Some.ensures in
-    let s : IsSpelling c.args.config.now (above c.args.file.now.path (end_of l))
+    let s : IsSpelling c.args.rules.now (above c.args.file.now.path (end_of l))
     (behind c.args.file.now.path (end_of l)) (Names c.in-Names.names) =
-    same_spelling c.args.config.now c.args.roots.now c.args.file.now.path c.as_bytes-path.result.now c.in-Some.number
+    same_spelling c.args.rules.now c.args.roots.now c.args.file.now.path c.as_bytes-path.result.now c.in-Some.number
     c.len.result c.root_at-root.result.now c.in_ok-names.field-0
     (Names c.in-Names.names) l c.as_bytes-path.ensures c.root_at-root.ensures.at c.len.ensures c.in-Names.is
     c.in_ok-names.ensures.spelled in
-    constant_told c.args.roots.now c.args.config.now c.args.file.now.path c.in-Some.number l c.in-Names.names
+    constant_told c.args.roots.now c.args.rules.now c.args.file.now.path c.in-Some.number l c.in-Names.names
     c.in_ok-joined-in-Names.field-0 c.root_at-root.ensures.distinct s
     (same_namespace c.args.roots.now c.args.file.now.path c.in-Some.number c.root_at-root.result.now l
     c.in_ok-joined-in-Names.field-0 c.in-Names.names c.as_slice.result.now c.root_at-root.ensures.at
@@ -42,8 +42,8 @@ pub returns-in_ok-joined-in-Names-clause-named : goal.returns-in_ok-joined-in-Na
 returns-in_ok-joined-in-Names-clause-named c =
     let l : IsLongestAbove c.args.roots.now c.args.file.now.path c.in-Some.number =
     rw (← c.as_bytes-path.ensures) c.in-Some.ensures in
-    no_bad_name c.args.roots.now c.args.config.now c.args.file.now.path c.in-Some.number l c.in-Names.names
-    (same_spelling c.args.config.now c.args.roots.now c.args.file.now.path c.as_bytes-path.result.now
+    no_bad_name c.args.roots.now c.args.rules.now c.args.file.now.path c.in-Some.number l c.in-Names.names
+    (same_spelling c.args.rules.now c.args.roots.now c.args.file.now.path c.as_bytes-path.result.now
     c.in-Some.number c.len.result c.root_at-root.result.now c.in_ok-names.field-0
     (Names c.in-Names.names) l c.as_bytes-path.ensures c.root_at-root.ensures.at c.len.ensures c.in-Names.is
     c.in_ok-names.ensures.spelled)
@@ -54,8 +54,8 @@ returns-in-Nothing-clause-exact c =
     rw (← c.as_bytes-path.ensures) c.in-Some.ensures in
     λ constant root. (
       λ h. absurd h,
-      λ s. nothing_told c.args.roots.now c.args.config.now c.args.file.now.path c.in-Some.number l
-          (same_spelling c.args.config.now c.args.roots.now c.args.file.now.path c.as_bytes-path.result.now
+      λ s. nothing_told c.args.roots.now c.args.rules.now c.args.file.now.path c.in-Some.number l
+          (same_spelling c.args.rules.now c.args.roots.now c.args.file.now.path c.as_bytes-path.result.now
           c.in-Some.number c.len.result c.root_at-root.result.now c.in_ok-names.field-0 Nothing l
           c.as_bytes-path.ensures c.root_at-root.ensures.at c.len.ensures c.in-Nothing.is
           c.in_ok-names.ensures.spelled)
@@ -66,8 +66,8 @@ pub returns-in-Nothing-clause-named : goal.returns-in-Nothing-clause-named
 returns-in-Nothing-clause-named c =
     let l : IsLongestAbove c.args.roots.now c.args.file.now.path c.in-Some.number =
     rw (← c.as_bytes-path.ensures) c.in-Some.ensures in
-    λ h. nothing_told c.args.roots.now c.args.config.now c.args.file.now.path c.in-Some.number l
-    (same_spelling c.args.config.now c.args.roots.now c.args.file.now.path c.as_bytes-path.result.now
+    λ h. nothing_told c.args.roots.now c.args.rules.now c.args.file.now.path c.in-Some.number l
+    (same_spelling c.args.rules.now c.args.roots.now c.args.file.now.path c.as_bytes-path.result.now
     c.in-Some.number c.len.result c.root_at-root.result.now c.in_ok-names.field-0 Nothing l
     c.as_bytes-path.ensures c.root_at-root.ensures.at c.len.ensures c.in-Nothing.is c.in_ok-names.ensures.spelled)
     h.root h.names h.spells
@@ -77,8 +77,8 @@ returns-in_ok-copy-in-BadName-clause-fault c =
     let l : IsLongestAbove c.args.roots.now c.args.file.now.path c.in-Some.number =
     rw (← c.as_bytes-path.ensures) c.in-Some.ensures in (
       c.in_ok-copy-in-BadName.ensures,
-      bad_told c.args.roots.now c.args.config.now c.args.file.now.path c.in-Some.number l
-          (same_spelling c.args.config.now c.args.roots.now c.args.file.now.path c.as_bytes-path.result.now
+      bad_told c.args.roots.now c.args.rules.now c.args.file.now.path c.in-Some.number l
+          (same_spelling c.args.rules.now c.args.roots.now c.args.file.now.path c.as_bytes-path.result.now
           c.in-Some.number c.len.result c.root_at-root.result.now c.in_ok-names.field-0 BadName l
           c.as_bytes-path.ensures c.root_at-root.ensures.at c.len.ensures c.in-BadName.is
           c.in_ok-names.ensures.spelled),

@@ -3,6 +3,6 @@ use Rattle.tree_scan.proofs.spelling.spelled_by.Given as goal
 
 abbrev pub invariant-files : goal.invariant-files
 invariant-files l = record {
-  listed : ListsBefore l.roots l.config l.files l.place l.spelled.items;
-  named : NamedBefore l.roots l.config l.files l.place;
+  listed : ListsBefore l.roots l.rules l.files l.place l.spelled.items;
+  named : NamedBefore l.roots l.rules l.files l.place;
 }

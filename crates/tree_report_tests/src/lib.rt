@@ -1,5 +1,0 @@
-//! What is said of applications, on examples.
-#![tactic(auto)]
-
-#[cfg(test)]
-mod tests;

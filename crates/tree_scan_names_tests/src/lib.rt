@@ -1,5 +1,0 @@
-//! Cases of names from paths.
-#![tactic(auto)]
-
-#[cfg(test)]
-mod tests;

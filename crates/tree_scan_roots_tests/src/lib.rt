@@ -1,5 +1,0 @@
-//! Cases of roots.
-#![tactic(auto)]
-
-#[cfg(test)]
-mod tests;

@@ -1,5 +1,0 @@
-//! Cases of sites.
-#![tactic(auto)]
-
-#[cfg(test)]
-mod tests;
