@@ -1,2 +1,3 @@
-mod KeyLaws
-mod ClashLaws
+pub mod PathLaws
+pub mod DeedLaws
+pub mod NotedLaws

@@ -1,2 +1,4 @@
+pub mod Paths
+pub mod Deeds
 pub mod Views
-pub mod Keys
+pub mod Noted

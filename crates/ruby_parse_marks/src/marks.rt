@@ -1,149 +1,114 @@
-//! The table of marks.
+//! The table of what a file defines.
 
-ghost use Rattle.std.specs.Prelude.{◌≡◌, ◌||◌, ◌∷◌, ◌++◌, [], false, IfOk, IfErr, OnOk, OnErr};
-ghost use Rattle.ruby_grammar.specs.Marks.{clashes_any};
-ghost use Rattle.ruby_grammar.specs.Signs.{has};
-ghost use Rattle.ruby_parse_marks.specs.Keys.{key, keys_of, mark_key};
-ghost use Rattle.ruby_parse_marks.specs.Views.{mark_view, Refused};
+ghost use Rattle.std.specs.Prelude.{◌≡◌, [], false, IfOk, IfErr, OnOk, OnErr};
+ghost use Rattle.ruby_grammar.specs.Definitions.{at_top, counts};
+ghost use Rattle.ruby_parse_marks.specs.Paths.{Reaches, Keeps};
+ghost use Rattle.ruby_parse_marks.specs.Views.{act_view, clashes, inside, outside, Adds, Refused};
 
-use crate::keys::{ASSIGNS, DEFINES, DEFINES_SINGLE, GIVES_PARENT, OPENS_CLASS, OPENS_MODULE, key};
-use crate::mark::{Act, Mark};
+use crate::act::Act;
+use crate::acts::{done, nothing};
+use crate::deeds::Deeds;
+use crate::paths::{Inner, number};
+use indexmap::IndexMap;
 use ruby_parse_cursor::Fault;
 use ruby_types::Text;
 use std::alloc::{AllocError, Global};
-use std::collections::BTreeSet;
 use std::marker::Model;
 
-/// What counts in a file so far.
+/// What counts in a file so far, and the modules and classes that are open.
 #[derive(Drop)]
 pub struct Marks {
-    /// Each in its turn.
-    list: Vec<Mark>,
-    keys: BTreeSet<Vec<u16>>,
     alloc: Global,
+    paths: IndexMap<Inner, usize>,
+    /// The path of the innermost module or class that is open, or the top's.
+    here: usize,
+    /// Those around it, the innermost last.
+    around: Vec<usize>,
+    deeds: Deeds,
 }
 
 impl Model for Marks {
-    ghost use Rattle.std.specs.Prelude.{List};
-    ghost use Rattle.ruby_grammar.specs.Marks.{Mark};
-    ghost use Rattle.ruby_parse_marks.specs.Keys.{AreKept};
-    ghost use Rattle.ruby_parse_marks.specs.Views.{latest_first};
+    ghost use Rattle.ruby_parse_marks.specs.Deeds.{done_of};
+    ghost use Rattle.ruby_parse_marks.specs.Noted.{noted, IsSound};
+    ghost use Rattle.ruby_parse_marks.specs.Views.{Noted};
 
-    ghost Value = { List Mark };
+    ghost Value = { Noted };
 
-    ghost view = { λ m. latest_first m.list.items };
+    ghost view = { λ m. noted m.paths.entries m.here m.around.items (done_of m.deeds) };
 
-    ghost invariant = { λ m. AreKept m.keys (latest_first m.list.items) };
+    ghost invariant = { λ m. IsSound m.paths.entries m.here m.around.items (done_of m.deeds) };
 }
 
-fn push_mark(list: &mut Vec<Mark>, mark: Mark) -> Result<(), AllocError>
-    ensures ok { OnOk result (list.new.items ≡ list.old.items ++ mark ∷ []) }
-    ensures err { OnErr result (list.new.items ≡ list.old.items) }
+/// The number of these names in the body of the path with that number.
+fn numbers(
+    alloc: Global,
+    paths: &mut IndexMap<Inner, usize>,
+    outer: usize,
+    names: &[Text],
+) -> Result<usize, AllocError>
+    ensures ok { IfOk result (λ n. Reaches paths.old.entries outer names.now n paths.new.entries) }
+    ensures err { OnErr result (Keeps paths.old.entries outer paths.new.entries) }
 {
-    list.push(mark)?;
-    Ok(())
-}
-
-/// The key of what a mark does to its path.
-fn key_of(alloc: Global, mark: &Mark) -> Result<Vec<u16>, AllocError>
-    ensures { IfOk result (λ code. code.items ≡ mark_key (mark_view mark.now)) }
-{
-    let path = mark.path.as_slice();
-    match &mark.act {
-        Act::Assigns => key(alloc, ASSIGNS, &[], path),
-        Act::OpensModule => key(alloc, OPENS_MODULE, &[], path),
-        Act::OpensClass => key(alloc, OPENS_CLASS, &[], path),
-        Act::GivesParent => key(alloc, GIVES_PARENT, &[], path),
-        Act::Defines { single, name } => {
-            let kind = if *single { DEFINES_SINGLE } else { DEFINES };
-            key(alloc, kind, name.as_bytes(), path)
-        }
+    let mut inner = outer;
+    'names: for name in names {
+        inner = number(alloc, paths, inner, name.as_bytes())?;
     }
+    Ok(inner)
 }
 
 impl Marks {
     pub fn new(alloc: Global) -> Marks
-        ensures { result ≡ [] }
+        ensures { result ≡ record { here = []; around = []; deeds = [] } }
     {
         Marks {
-            list: Vec::new(alloc),
-            keys: BTreeSet::new(alloc),
             alloc,
+            paths: IndexMap::new(alloc),
+            here: 0,
+            around: Vec::new(alloc),
+            deeds: nothing(alloc),
         }
     }
 
-    /// Whether an act of this kind, which has no name, was done to this path.
-    fn has(&self, kind: u16, path: &[Text]) -> Result<bool, AllocError>
-        ensures { IfOk result (λ found. found ≡ has (keys_of self.now) (key kind [] path.now)) }
+    /// Whether no module and no class is open.
+    pub fn is_top(&self) -> bool
+        ensures { result ≡ at_top self.now.here }
     {
-        let code = key(self.alloc, kind, &[], path)?;
-        Ok(self.keys.contains(code.as_slice()))
+        self.here == 0
     }
 
-    /// Whether this very act was done to this path.
-    fn has_same(&self, mark: &Mark) -> Result<bool, AllocError>
-        ensures { IfOk result (λ found. found ≡ has (keys_of self.now) (mark_key (mark_view mark.now))) }
-    {
-        let code = key_of(self.alloc, mark)?;
-        Ok(self.keys.contains(code.as_slice()))
-    }
-
-    /// Whether one of these acts, which have no name, was done to this path.
-    fn has_either(&self, kind: u16, other: u16, path: &[Text]) -> Result<bool, AllocError>
-        ensures { IfOk result (λ found. found
-            ≡ (has (keys_of self.now) (key kind [] path.now) || has (keys_of self.now) (key other [] path.now))) }
-    {
-        if self.has(kind, path)? {
-            Ok(true)
-        } else {
-            self.has(other, path)
-        }
-    }
-
-    /// Whether the path was assigned or opened.
-    fn has_path(&self, path: &[Text]) -> Result<bool, AllocError>
-        ensures { IfOk result (λ found. found
-            ≡ (has (keys_of self.now) (key 0 [] path.now) ||
-            (has (keys_of self.now) (key 1 [] path.now) || has (keys_of self.now) (key 2 [] path.now)))) }
-    {
-        if self.has(ASSIGNS, path)? {
-            Ok(true)
-        } else {
-            self.has_either(OPENS_MODULE, OPENS_CLASS, path)
-        }
-    }
-
-    /// Whether the mark clashes with one of these.
-    fn clashes(&self, mark: &Mark) -> Result<bool, AllocError>
-        ensures { IfOk result (λ found. found ≡ clashes_any self.now (mark_view mark.now)) }
-    {
-        let path = mark.path.as_slice();
-        match &mark.act {
-            Act::Assigns => self.has_path(path),
-            Act::OpensModule => self.has_either(ASSIGNS, OPENS_CLASS, path),
-            Act::OpensClass => self.has_either(ASSIGNS, OPENS_MODULE, path),
-            Act::GivesParent => self.has_same(mark),
-            Act::Defines { single: _, name: _ } => self.has_same(mark),
-        }
-    }
-
-    /// Adds a mark that clashes with none of these. One that clashes is `Twice` at its place.
-    pub fn add(&mut self, mark: Mark) -> Result<(), Fault>
-        ensures clear { OnOk result (clashes_any self.old (mark_view mark) ≡ false) }
-        ensures added { OnOk result (self.new ≡ mark_view mark ∷ self.old) }
-        ensures refused { IfErr result (λ e. Refused self.old (mark_view mark) e) }
+    /// Goes into a module or class with this path in the one around.
+    pub fn open(&mut self, names: &[Text]) -> Result<(), AllocError>
+        ensures opened { OnOk result (self.new ≡ inside self.old names.now) }
         ensures stays { OnErr result (self.new ≡ self.old) }
     {
-        if self.clashes(&mark)? {
-            return Err(Fault::Twice(mark.at));
+        let inner = numbers(self.alloc, &mut self.paths, self.here, names)?;
+        self.around.push(self.here)?;
+        self.here = inner;
+        Ok(())
+    }
+
+    /// Goes out of the innermost module or class, if one is open.
+    pub fn close(&mut self)
+        ensures { self.new ≡ outside self.old }
+    {
+        match self.around.pop() {
+            Some(outer) => {
+                self.here = outer;
+            }
+            None => {}
         }
-        let code = key_of(self.alloc, &mark)?;
-        push_mark(&mut self.list, mark)?;
-        match self.keys.insert(code) {
-            Ok(_) => return Ok(()),
-            Err(_) => {}
+    }
+
+    /// Does this to the path of the innermost module or class at this place. What clashes is `Twice` there.
+    pub fn add(&mut self, act: Act, at: u32) -> Result<(), Fault>
+        ensures clear { OnOk result (clashes self.old (counts self.old.here (act_view act) at) ≡ false) }
+        ensures added { OnOk result (Adds self.old (counts self.old.here (act_view act) at) self.new) }
+        ensures refused { IfErr result (λ e. Refused self.old (counts self.old.here (act_view act) at) e) }
+        ensures stays { OnErr result (self.new ≡ self.old) }
+    {
+        if done(&mut self.deeds, self.here, act)? {
+            return Ok(());
         }
-        self.list.pop();
-        Err(Fault::Memory)
+        Err(Fault::Twice(at))
     }
 }

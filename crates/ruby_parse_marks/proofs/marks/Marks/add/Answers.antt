@@ -1,14 +1,34 @@
-use Rattle.std.proofs.Common.{◌∙◌, ◌∷◌, ap}
-use Rattle.ruby_parse_marks.specs.Views.{mark_view, latest_first}
-use Rattle.ruby_parse_marks.proofs.KeyLaws.{insert_kept, latest_more}
+use Rattle.std.proofs.Common.{true, subst, refl}
+use Rattle.ruby_parse_marks.specs.Deeds.{done_of, Does}
+use Rattle.ruby_parse_marks.proofs.NotedLaws.{sound_done, clear_is, clash_is, adds}
 use Rattle.ruby_parse_marks.proofs.marks.Marks.add.Goals as goal
 
-pub invariant_of-self-in-Ok : goal.invariant_of-self-in-Ok
-invariant_of-self-in-Ok c =
-    insert_kept c.self.inside.list.items c.push_mark.new.list.items c.args.mark c.in_ok-code.code c.self.inside.keys
-    c.insert.new.self c.in_ok-push_mark.ensures.ok c.in_ok-code.ensures c.in-Ok.ensures.updates c.self.invariant
+pub invariant_of-self-then-branch : goal.invariant_of-self-then-branch
+invariant_of-self-then-branch c = sound_done c.self.inside.paths.entries c.self.inside.here
+    c.self.inside.around.items (done_of c.self.inside.deeds) c.self.invariant c.args.act (done_of c.done.new.deeds)
+    true (subst (λ b. Does (done_of c.self.inside.deeds) c.self.inside.here c.args.act b (done_of c.done.new.deeds))
+    c.if-branch.true c.in_ok-done.ensures.ok)
 
-pub returns-in-Ok-clause-added : goal.returns-in-Ok-clause-added
-returns-in-Ok-clause-added c =
-    ap latest_first c.in_ok-push_mark.ensures.ok ∙ latest_more c.self.inside.list.items c.args.mark
-    ∙ ap (λ l. mark_view c.args.mark ∷ l) c.self.view_is
+pub returns-then-branch-clause-clear : goal.returns-then-branch-clause-clear
+returns-then-branch-clause-clear c = clear_is c.self.inside.paths.entries c.self.inside.here
+    c.self.inside.around.items (done_of c.self.inside.deeds) c.self.invariant c.args.act (done_of c.done.new.deeds)
+    c.args.self.now c.self.view_is c.args.at
+    (subst (λ b. Does (done_of c.self.inside.deeds) c.self.inside.here c.args.act b (done_of c.done.new.deeds))
+    c.if-branch.true c.in_ok-done.ensures.ok)
+
+pub returns-then-branch-clause-added : goal.returns-then-branch-clause-added
+returns-then-branch-clause-added c = adds c.self.inside.paths.entries c.self.inside.here
+    c.self.inside.around.items (done_of c.self.inside.deeds) c.self.invariant c.args.act (done_of c.done.new.deeds)
+    c.args.self.now c.self.view_is c.args.at
+    (subst (λ b. Does (done_of c.self.inside.deeds) c.self.inside.here c.args.act b (done_of c.done.new.deeds))
+    c.if-branch.true c.in_ok-done.ensures.ok)
+
+pub returns-clause-refused : goal.returns-clause-refused
+returns-clause-refused c = (
+  clash_is c.self.inside.paths.entries c.self.inside.here c.self.inside.around.items
+      (done_of c.self.inside.deeds) c.self.invariant c.args.act (done_of c.done.new.deeds) c.args.self.now
+      c.self.view_is c.args.at
+      (subst (λ b. Does (done_of c.self.inside.deeds) c.self.inside.here c.args.act b (done_of c.done.new.deeds))
+      c.if-branch.false c.in_ok-done.ensures.ok),
+  refl,
+)
