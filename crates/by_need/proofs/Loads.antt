@@ -73,7 +73,7 @@ module _ {T V E O : Type 0} (r : Rules T V E O) (laws : Lawful r) where
   chain_tasks [] t K p c h = (h, tt)
   chain_tasks (x ∷ ts) t K p c h = (h, chain_tasks ts t K p c.1 (asks_task r laws x K (first_or t ts) p c.0))
 
-  chain_last_task : (ts : List T) (t : T) (K : T → Option V) → Part K (known r) → Chain r K ts t →
+  pub chain_last_task : (ts : List T) (t : T) (K : T → Option V) → Part K (known r) → Chain r K ts t →
       is_task r (first_or t ts) ≡ true → is_task r t ≡ true
   chain_last_task [] t K p c h = h
   chain_last_task (x ∷ ts) t K p c h = chain_last_task ts t K p c.1 (asks_task r laws x K (first_or t ts) p c.0)

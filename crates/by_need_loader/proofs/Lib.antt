@@ -1,7 +1,9 @@
-pub mod Lists
+pub mod Rings
 pub mod Opens
 pub mod History
 pub mod Progress
-pub mod Rings
+pub mod Lists
 pub mod Told
 pub mod Turns
+pub mod Keys
+pub mod Goes

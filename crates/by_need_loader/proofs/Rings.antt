@@ -1,8 +1,11 @@
 -- The least name of a ring.
-use Rattle.std.proofs.Common.{◌≡◌, ◌<◌, ◌≤◌, ◌+◌, ◌∷◌, [], ℕ, suc, zero, List, length, slice_get, get_or, Option, Some}
+use Rattle.std.proofs.Common.{◌≡◌, ◌<◌, ◌≤◌, ◌+◌, ◌∷◌, [], ℕ, suc, zero, List, length, slice_get, get_or, Option, Some, drop, take}
 use Rattle.std.proofs.Common.{Bool, true, false, inl, inr, refl, sym, ap, ◌∙◌, subst, arith}
+use Rattle.std.proofs.Common.{◌-◌, ◌++◌, length-drop}
+use Rattle.std.proofs.Math.Seq.{take-append_seam}
 use Rattle.std.proofs.lemmas.Bool.{cases_lt}
-use Rattle.by_need.specs.Rounds.{Rules}
+use Rattle.by_need.specs.Open.{AllTasks}
+use Rattle.by_need.specs.Rounds.{Rules, is_task}
 use Rattle.by_need.specs.Laws.{Lawful}
 use Rattle.by_need_loader.specs.Ring.{HasLeast}
 
@@ -15,6 +18,31 @@ pub get_at : {T : Type 0} (xs : List T) (k : ℕ) (d : T) → k < length xs → 
 get_at [] k d lt = absurd (omega (arith, lt))
 get_at (x ∷ xs) zero d lt = refl
 get_at (x ∷ xs) (suc k) d lt = get_at xs k d (omega (arith, lt))
+
+-- the tasks from a place on are what is left of the turned tasks once the others are cut off
+pub cut_tail : {T : Type 0} (ts turned cut : List T) (n place : ℕ) → n ≡ length ts →
+    turned ≡ drop place ts ++ take place ts → cut ≡ take (n - place) turned → cut ≡ drop place ts
+cut_tail ts turned cut n place count is e =
+    let fits : n - place ≡ length (drop place ts) = ap (λ k. k - place) count ∙ sym (length-drop place ts) in
+    e ∙ ap (take (n - place)) is ∙ ap (λ k. take k (drop place ts ++ take place ts)) fits
+    ∙ take-append_seam (drop place ts) (take place ts)
+
+module _ {T V E O : Type 0} (r : Rules T V E O) where
+  all_at : (ts : List T) (i : ℕ) (d : T) → AllTasks r ts → i < length ts → is_task r (get_or ts i d) ≡ true
+  all_at [] i d all lt = absurd (omega (arith, lt))
+  all_at (t ∷ ts) zero d all lt = all.0
+  all_at (t ∷ ts) (suc i) d all lt = all_at ts i d all.1 (omega (arith, lt))
+
+  -- what stands among tasks is a task
+  pub task_at : (ts : List T) (i : ℕ) (a : T) → AllTasks r ts → i < length ts → a ≡ get_or ts i a →
+      is_task r a ≡ true
+  task_at ts i a all lt is = ap (is_task r) is ∙ all_at ts i a all lt
+
+  -- the tasks from a place on
+  pub tasks_from : (ts : List T) (place : ℕ) → AllTasks r ts → AllTasks r (drop place ts)
+  tasks_from ts zero all = all
+  tasks_from [] (suc place) all = tt
+  tasks_from (t ∷ ts) (suc place) all = tasks_from ts place all.1
 
 module _ {T V E O : Type 0} (r : Rules T V E O) (laws : Lawful r) where
   same_some : (a b : T) (o : Option T) → o ≡ Some a → o ≡ Some b → a ≡ b

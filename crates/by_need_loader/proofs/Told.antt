@@ -36,7 +36,7 @@ pub unsnoc : {T : Type 0} (ts : List T) → (ts ≡ []) ⊎ ((front : List T) ×
 unsnoc [] = inl refl
 unsnoc (t ∷ ts) = inr (unsnoc_on t ts (unsnoc ts))
 
-looks_same : {T R : Type 0} (phase : Phase T R) (u w : T) → phase ≡ Looks u → phase ≡ Looks w → u ≡ w
+pub looks_same : {T R : Type 0} (phase : Phase T R) (u w : T) → phase ≡ Looks u → phase ≡ Looks w → u ≡ w
 looks_same phase u w p q = cc
 
 split_at : {T : Type 0} (ts : List T) (i : ℕ) → i < length ts → (front : List T) × (y : T) × (mid : List T)

@@ -1,13 +1,12 @@
 -- How a load ends.
 use Rattle.std.specs.Prelude.{◌≡◌, List, Option, Some, None, Bool, true, false}
-use Rattle.by_need.specs.Asking.{Computation}
 use Rattle.by_need.specs.Blame.{blame}
 use Rattle.by_need.specs.Rounds.{Rules, known}
-use Rattle.by_need_loader.specs.Machine.{cause}
-use Rattle.by_need_loader.specs.Steps.{IsAt}
+use Rattle.by_need_loader.specs.Failures.{cause}
+use Rattle.by_need_loader.specs.Runs.{Runs}
+use Rattle.by_need_loader.specs.Progress.{Progress, IsOn}
 use Rattle.by_need_loader.specs.declared.whole.Loaded.{Loaded}
 use Rattle.by_need_loader.specs.declared.whole.Loaded.TheVariants.{Done, Failed}
-use Rattle.by_need_loader.specs.declared.loader.Phase.{Phase}
 
 -- Done: the task is known, and in the table. Failed: it stays unknown, and this is its blame.
 abbrev pub Ends : {T V E O : Type 0} → Rules T V E O → T → (T → Option V) → Loaded T E O → Type 0
@@ -18,8 +17,8 @@ abbrev pub is_done : {T E O : Type 0} → Loaded T E O → Bool
 is_done Done = true
 is_done (Failed failure) = false
 
--- The loader after some defines.
-abbrev pub IsOn : {T V E O R W : Type 0} → Rules T V E O → (W → V → Computation T V E O) →
-    (R → Computation T V E O) → T → (T → Option V) → (T → Option V) → List T → List W → Phase T R → Type 0
-IsOn {T} {V} r branch rest wanted J K ts ws phase = (made : List (T × V))
-    × IsAt r branch rest wanted J made K ts ws phase
+-- The load of a task that was begun over J goes on rightly over K, whatever was defined on the way.
+pub record GoesOn {T V E O R W N : Type 0} (r : Rules T V E O) (m : Runs T V E O R W N) (task : T)
+    (J K : T → Option V) (p : Progress T R W N) : Type 0 where
+  pub made : List (T × V)
+  pub on : IsOn r m (record { wanted = task; at_first = J; made = made; table = K }) p

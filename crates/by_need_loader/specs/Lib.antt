@@ -1,4 +1,6 @@
-pub mod Machine
-pub mod Ends
+pub mod Runs
+pub mod Failures
 pub mod Ring
 pub mod Steps
+pub mod Progress
+pub mod Ends

@@ -7,7 +7,7 @@ use Rattle.by_need.specs.Blame.{blame}
 use Rattle.by_need.specs.Load.{Defines}
 use Rattle.by_need.specs.Order.{Load, Loads}
 use Rattle.by_need.specs.Open.{NoneKnown, Apart, first_or, left, total}
-use Rattle.by_need_loader.specs.Machine.{cause}
+use Rattle.by_need_loader.specs.Failures.{cause}
 use Rattle.by_need_loader.specs.declared.loader.Phase.{Phase}
 use Rattle.by_need_loader.specs.declared.loader.Phase.TheVariants.{Asked, Looks, Lacks, Runs, Loaded, Over}
 use Rattle.by_need_loader.specs.declared.loader.LoadStep.{LoadStep}

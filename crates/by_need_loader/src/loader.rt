@@ -1,18 +1,21 @@
 //! A load of a task, step by step. Its caller has the table.
-ghost use Rattle.std.specs.Prelude.{◌≡◌, ◌≤◌, ◌<◌, ℕ, true, IfOk, Option, None, Some, List, [], reverse, option_copied};
-ghost use Rattle.by_need.specs.Rounds.{Part, is_task, known};
-ghost use Rattle.by_need_loader.specs.Steps.{Before, IsAt, IsReady, Opened, Running, Tells, todo};
+ghost use Rattle.std.specs.Prelude.{◌≡◌, ◌≤◌, ◌<◌, ℕ, IfOk, Some, None, map, ◌∷◌, ◌++◌, [], option_copied};
+ghost use Rattle.by_need_loader.specs.Steps.{IsReady, Running};
+ghost use Rattle.by_need_loader.specs.Progress.{History, IsOn, Finds, WentOn, Says, WaitsFor, begun, left_in};
+ghost use Rattle.by_need_loader.specs.Progress.{Resumed, left_to_do};
 
 use crate::program::{Next, Program};
-use crate::ring::{place_of, ring_from};
+use crate::ring::ring_from;
+use indexmap::IndexSet;
 use std::alloc::{AllocError, Global};
+use std::marker::Model;
 use std::mem;
 
 /// Why a task stays unknown.
 #[derive(Drop)]
 pub enum Failure<T, E, O> {
     Raised(E),
-    /// Tasks that ask for one another, in asking order from the least name.
+    /// Tasks that ask for one another, in asking order from the least.
     Circle(Vec<T>),
     /// A run without a value or an error.
     Otherwise(O),
@@ -29,6 +32,7 @@ pub enum LoadStep<T, V, E, O> {
     Failed(Failure<T, E, O>),
 }
 
+/// What comes next in a load.
 #[derive(Drop)]
 pub enum Phase<T, R> {
     /// A look at the task comes next.
@@ -44,77 +48,81 @@ pub enum Phase<T, R> {
     Over,
 }
 
-/// The load of a task: the open tasks in asking order, each with its waiting run.
-#[derive(Drop)]
-pub struct Loader<T, R, W> {
-    tasks: Vec<T>,
-    waiting: Vec<W>,
-    phase: Phase<T, R>,
+fn set<T: Drop, R: Drop>(phase: &mut Phase<T, R>, next: Phase<T, R>)
+    ensures { phase.new ≡ next }
+{
+    *phase = next;
 }
 
-impl<T: Drop, R: Drop, W: Drop> Loader<T, R, W> {
+/// The load of a task: the open tasks in asking order, each with its waiting run.
+#[derive(Drop)]
+pub struct Loader<Y: Program> {
+    tasks: Vec<Y::Task>,
+    waiting: Vec<Y::Waiting>,
+    // By which an open task is found.
+    keys: IndexSet<Y::Key>,
+    phase: Phase<Y::Task, Y::Running>,
+}
+
+impl<Y: Program> Model for Loader<Y> {
+    ghost use Rattle.by_need_loader.specs.Progress.{Progress};
+
+    ghost Value = { Progress Y.Task Y.Running Y.Waiting Y.Key };
+
+    ghost view = { λ l. record {
+        tasks = l.tasks.items;
+        waiting = l.waiting.items;
+        keys = l.keys.keys;
+        phase = l.phase;
+    } };
+}
+
+impl<Y: Program> Loader<Y> {
     /// The load of a task over a table. The first step is the look at the task itself.
-    pub fn begin<Y: Program<Task = T, Running = R, Waiting = W>>(
-        alloc: Global,
-        _theory: &Y,
-        task: T,
-    ) -> Self
-        ensures ready { IsReady result.phase }
-        ensures at { let r = Y.rules _theory.now in (K : T → Option Y.Value) → is_task r task ≡ true →
-            Part K (known r) →
-            IsAt r (Y.branch _theory.now) (Y.rest _theory.now) task K [] K result.tasks.items result.waiting.items result.phase }
+    pub fn begin(alloc: Global, task: Y::Task) -> Self
+        ensures { result ≡ begun task }
     {
         Loader {
             tasks: Vec::new(alloc),
             waiting: Vec::new(alloc),
+            keys: IndexSet::new(alloc),
             phase: Phase::Asked(task),
         }
     }
 
     /// The table's answer to the last step, which was a look.
-    pub fn answer<Y: Program<Task = T, Running = R, Waiting = W>>(
-        &mut self,
-        theory: &Y,
-        found: Option<&Y::Value>,
-    ) -> Result<(), AllocError>
-        ensures { let r = Y.rules theory.now in
-            IfOk result (λ _. (u wanted : T) (J K : T → Option Y.Value) (made : List (T × Y.Value)) →
-            self.old.phase ≡ Phase.Looks u → option_copied found.entry ≡ K u →
-            IsAt r (Y.branch theory.now) (Y.rest theory.now) wanted J made K self.old.tasks.items self.old.waiting.items self.old.phase →
-            IsReady self.new.phase × IsAt r (Y.branch theory.now) (Y.rest theory.now) wanted J made K self.new.tasks.items self.new.waiting.items self.new.phase
-            × (todo r (Y.branch theory.now) (Y.rest theory.now) K self.new.tasks.items self.new.waiting.items
-            self.new.phase < todo r (Y.branch theory.now) (Y.rest theory.now) K self.old.tasks.items
-            self.old.waiting.items self.old.phase)) }
+    pub fn answer(&mut self, found: Option<&Y::Value>) -> Result<(), AllocError>
+        ensures { IfOk result (λ _. (s : Y) (h : History Y.Task Y.Value) →
+            Finds (Y.rules s) (Y.runs s) h self.old (option_copied found.entry) → IsOn (Y.rules s) (Y.runs s) h self.old →
+            WentOn (Y.rules s) (Y.runs s) h self.old self.new) }
     {
         match mem::replace(&mut self.phase, Phase::Over) {
             Phase::Looks(task) => match found {
-                None => self.phase = Phase::Lacks(task),
-                Some(value) => self.resume(theory, value)?,
+                None => set(&mut self.phase, Phase::Lacks(task)),
+                Some(value) => self.resume(value)?,
             },
-            phase => self.phase = phase,
+            phase => set(&mut self.phase, phase),
         }
         Ok(())
     }
 
     /// The next step. Before it a look is answered, and a define is done in the table.
-    pub fn step<Y: Program<Task = T, Running = R, Waiting = W>>(
+    pub fn step(
         &mut self,
         alloc: Global,
         theory: &Y,
-    ) -> Result<LoadStep<T, Y::Value, Y::Error, Y::Other>, AllocError>
-        ensures { let r = Y.rules theory.now in
-            IfOk result (λ told. (wanted : T) (J K : T → Option Y.Value) (made : List (T × Y.Value)) →
-            IsReady self.old.phase →
-            IsAt r (Y.branch theory.now) (Y.rest theory.now) wanted J made K self.old.tasks.items self.old.waiting.items self.old.phase →
-            Tells r (Y.branch theory.now) (Y.rest theory.now) wanted J made K self.new.tasks.items self.new.waiting.items self.new.phase (todo r (Y.branch theory.now) (Y.rest theory.now) K self.old.tasks.items self.old.waiting.items self.old.phase) told) }
+    ) -> Result<LoadStep<Y::Task, Y::Value, Y::Error, Y::Other>, AllocError>
+        ensures { let r = Y.rules theory.now in let m = Y.runs theory.now in
+            IfOk result (λ told. (h : History Y.Task Y.Value) → IsReady self.old.phase → IsOn r m h self.old →
+            Says r m h (left_to_do r m h self.old) self.new told) }
     {
         match mem::replace(&mut self.phase, Phase::Over) {
-            Phase::Asked(task) => self.look(theory, task),
-            Phase::Looks(task) => self.look(theory, task),
+            Phase::Asked(task) => self.look(task),
+            Phase::Looks(task) => self.look(task),
             Phase::Lacks(task) => self.enter(alloc, theory, task),
             Phase::Runs(task, running) => self.go_on(theory, task, running),
             Phase::Loaded => {
-                self.phase = Phase::Loaded;
+                set(&mut self.phase, Phase::Loaded);
                 Ok(LoadStep::Done)
             }
             Phase::Over => Err(AllocError),
@@ -122,25 +130,17 @@ impl<T: Drop, R: Drop, W: Drop> Loader<T, R, W> {
     }
 
     /// Gives the latest open task the value that its run waits for; the load is done where none is open.
-    fn resume<Y: Program<Task = T, Running = R, Waiting = W>>(
-        &mut self,
-        theory: &Y,
-        value: &Y::Value,
-    ) -> Result<(), AllocError>
-        ensures { let r = Y.rules theory.now in
-            IfOk result (λ _. (u wanted : T) (J K : T → Option Y.Value) (made : List (T × Y.Value)) →
-            K u ≡ Some value.now →
-            Opened r (Y.branch theory.now) wanted K self.old.tasks.items self.old.waiting.items u → Before r J wanted (reverse self.old.tasks.items) K made →
-            IsReady self.new.phase × IsAt r (Y.branch theory.now) (Y.rest theory.now) wanted J made K self.new.tasks.items self.new.waiting.items self.new.phase
-            × (todo r (Y.branch theory.now) (Y.rest theory.now) K self.new.tasks.items self.new.waiting.items
-            self.new.phase < todo r (Y.branch theory.now) (Y.rest theory.now) K self.old.tasks.items
-            self.old.waiting.items (Phase.Looks u))) }
+    fn resume(&mut self, value: &Y::Value) -> Result<(), AllocError>
+        ensures { IfOk result (λ _. (s : Y) (h : History Y.Task Y.Value) (u : Y.Task) →
+            h.table u ≡ Some value.now → WaitsFor (Y.rules s) (Y.runs s) h self.old u →
+            Resumed (Y.rules s) (Y.runs s) h self.old self.new u) }
     {
         match self.tasks.pop() {
-            None => self.phase = Phase::Loaded,
+            None => set(&mut self.phase, Phase::Loaded),
             Some(task) => {
                 if let Some(waiting) = self.waiting.pop() {
-                    self.phase = Phase::Runs(task, theory.supply(waiting, value)?);
+                    let running = Y::supply(waiting, value)?;
+                    set(&mut self.phase, Phase::Runs(task, running));
                 }
             }
         }
@@ -148,67 +148,68 @@ impl<T: Drop, R: Drop, W: Drop> Loader<T, R, W> {
     }
 
     /// Asks for the table's value of a task.
-    fn look<Y: Program<Task = T, Running = R, Waiting = W>>(
+    fn look(
         &mut self,
-        theory: &Y,
-        task: T,
-    ) -> Result<LoadStep<T, Y::Value, Y::Error, Y::Other>, AllocError>
-        ensures { let r = Y.rules theory.now in
-            IfOk result (λ told. (wanted : T) (J K : T → Option Y.Value) (made : List (T × Y.Value)) (bound : ℕ) →
-            Opened r (Y.branch theory.now) wanted K self.old.tasks.items self.old.waiting.items task → Before r J wanted (reverse self.old.tasks.items) K made →
-            todo r (Y.branch theory.now) (Y.rest theory.now) K self.old.tasks.items self.old.waiting.items (Phase.Looks task) < bound →
-            Tells r (Y.branch theory.now) (Y.rest theory.now) wanted J made K self.new.tasks.items self.new.waiting.items self.new.phase bound told) }
+        task: Y::Task,
+    ) -> Result<LoadStep<Y::Task, Y::Value, Y::Error, Y::Other>, AllocError>
+        ensures { IfOk result (λ told. (s : Y) (h : History Y.Task Y.Value) (bound : ℕ) →
+            WaitsFor (Y.rules s) (Y.runs s) h self.old task →
+            left_in (Y.rules s) (Y.runs s) h self.old (Phase.Looks task) < bound →
+            Says (Y.rules s) (Y.runs s) h bound self.new told) }
     {
-        let told = theory.copy(&task)?;
-        self.phase = Phase::Looks(task);
+        let told = Y::copy(&task)?;
+        set(&mut self.phase, Phase::Looks(task));
         Ok(LoadStep::Look(told))
     }
 
     /// Begins the run of a task that the table lacks, or names the ring that it closes.
-    fn enter<Y: Program<Task = T, Running = R, Waiting = W>>(
+    fn enter(
         &mut self,
         alloc: Global,
         theory: &Y,
-        task: T,
-    ) -> Result<LoadStep<T, Y::Value, Y::Error, Y::Other>, AllocError>
-        ensures { let r = Y.rules theory.now in
-            IfOk result (λ told. (wanted : T) (J K : T → Option Y.Value) (made : List (T × Y.Value)) (bound : ℕ) →
-            Opened r (Y.branch theory.now) wanted K self.old.tasks.items self.old.waiting.items task → Before r J wanted (reverse self.old.tasks.items) K made → K task ≡ None →
-            todo r (Y.branch theory.now) (Y.rest theory.now) K self.old.tasks.items self.old.waiting.items (Phase.Lacks task) ≤ bound →
-            Tells r (Y.branch theory.now) (Y.rest theory.now) wanted J made K self.new.tasks.items self.new.waiting.items self.new.phase bound told) }
+        task: Y::Task,
+    ) -> Result<LoadStep<Y::Task, Y::Value, Y::Error, Y::Other>, AllocError>
+        ensures { let r = Y.rules theory.now in let m = Y.runs theory.now in
+            IfOk result (λ told. (h : History Y.Task Y.Value) (bound : ℕ) → WaitsFor r m h self.old task →
+            h.table task ≡ None → left_in r m h self.old (Phase.Lacks task) ≤ bound →
+            Says r m h bound self.new told) }
     {
-        match place_of(theory, &self.tasks, &task) {
-            Some(place) => {
-                let tasks = mem::replace(&mut self.tasks, Vec::new(alloc));
-                Ok(LoadStep::Failed(Failure::Circle(ring_from(theory, tasks, place))))
-            }
-            None => {
+        let key = theory.key(&task)?;
+        match self.keys.insert_full(key) {
+            Err(_) => Err(AllocError),
+            Ok((_, true)) => {
                 let running = theory.begin(&task)?;
                 self.go_on(theory, task, running)
+            }
+            Ok((place, false)) => {
+                let tasks = mem::replace(&mut self.tasks, Vec::new(alloc));
+                Ok(LoadStep::Failed(Failure::Circle(ring_from(theory, tasks, place))))
             }
         }
     }
 
     /// Tells what the run of a task comes to.
-    fn go_on<Y: Program<Task = T, Running = R, Waiting = W>>(
+    fn go_on(
         &mut self,
         theory: &Y,
-        task: T,
-        running: R,
-    ) -> Result<LoadStep<T, Y::Value, Y::Error, Y::Other>, AllocError>
-        ensures { let r = Y.rules theory.now in
-            IfOk result (λ told. (wanted : T) (J K : T → Option Y.Value) (made : List (T × Y.Value)) (bound : ℕ) →
-            Running r (Y.branch theory.now) (Y.rest theory.now) wanted J made K self.old.tasks.items self.old.waiting.items task running →
-            todo r (Y.branch theory.now) (Y.rest theory.now) K self.old.tasks.items self.old.waiting.items (Phase.Runs task running) ≤ bound →
-            Tells r (Y.branch theory.now) (Y.rest theory.now) wanted J made K self.new.tasks.items self.new.waiting.items self.new.phase bound told) }
+        task: Y::Task,
+        running: Y::Running,
+    ) -> Result<LoadStep<Y::Task, Y::Value, Y::Error, Y::Other>, AllocError>
+        ensures { let r = Y.rules theory.now in let m = Y.runs theory.now in
+            IfOk result (λ told. (h : History Y.Task Y.Value) (bound : ℕ) →
+            self.old.keys ≡ map m.key (self.old.tasks ++ task ∷ []) →
+            Running r m.branch m.rest h.wanted h.at_first h.made h.table self.old.tasks self.old.waiting task running →
+            left_in r m h self.old (Phase.Runs task running) ≤ bound → Says r m h bound self.new told) }
     {
         match theory.run(running)? {
             Next::Done(value) => {
+                self.keys.truncate(self.tasks.len());
                 if self.tasks.is_empty() {
-                    self.phase = Phase::Loaded;
+                    set(&mut self.phase, Phase::Loaded);
                     return Ok(LoadStep::Define(task, value));
                 }
-                self.phase = Phase::Asked(theory.copy(&task)?);
+                let asked = Y::copy(&task)?;
+                set(&mut self.phase, Phase::Asked(asked));
                 Ok(LoadStep::Define(task, value))
             }
             Next::Raised(error) => Ok(LoadStep::Failed(Failure::Raised(error))),
@@ -216,7 +217,7 @@ impl<T: Drop, R: Drop, W: Drop> Loader<T, R, W> {
             Next::Asks(asked, waiting) => {
                 self.tasks.push(task)?;
                 self.waiting.push(waiting)?;
-                self.look(theory, asked)
+                self.look(asked)
             }
         }
     }

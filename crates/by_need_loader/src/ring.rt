@@ -1,16 +1,15 @@
 //! The ring among the open tasks.
-ghost use Rattle.std.specs.Prelude.{◌≡◌, ◌<◌, ℕ, length, IfSome, IsNone, true, false, slice_get, drop, take, ◌++◌};
-ghost use Rattle.std.specs.Prelude.{Some, Option};
-ghost use Rattle.std.specs.List.{list_any};
+ghost use Rattle.std.specs.Prelude.{◌<◌, length, drop};
+ghost use Rattle.by_need.specs.Open.{AllTasks};
 ghost use Rattle.by_need_loader.specs.Ring.{IsTurned, HasLeast};
 
 use crate::program::Program;
 
-/// The place of the task of the least name.
+/// The place of the least task.
 fn least_place<Y: Program>(theory: &Y, tasks: &[Y::Task]) -> usize
     requires { 0 < length tasks.now }
     ensures within { result < length tasks.now }
-    ensures least { HasLeast (Y.rules theory.now).at_most tasks.now result }
+    ensures least { AllTasks (Y.rules theory.now) tasks.now → HasLeast (Y.rules theory.now).at_most tasks.now result }
 {
     let mut best = 0;
     for i in 1..tasks.len() {
@@ -22,29 +21,27 @@ fn least_place<Y: Program>(theory: &Y, tasks: &[Y::Task]) -> usize
     best
 }
 
-/// The first place of a task.
-pub fn place_of<Y: Program>(theory: &Y, tasks: &[Y::Task], task: &Y::Task) -> Option<usize>
-    ensures there { IfSome result (λ place. (place < length tasks.now)
-        × ((x : Y.Task) → slice_get tasks.now place ≡ Some x → (Y.rules theory.now).same task.now x ≡ true)) }
-    ensures missing { IsNone result → list_any ((Y.rules theory.now).same task.now) tasks.now ≡ false }
+/// The tasks of a ring, turned so that the least comes first.
+fn turned<Y: Program>(theory: &Y, mut ring: Vec<Y::Task>) -> Vec<Y::Task>
+    requires { 0 < length ring.items }
+    ensures { AllTasks (Y.rules theory.now) ring.items →
+        IsTurned (Y.rules theory.now).at_most ring.items result.items }
 {
-    for (i, open) in tasks.iter().enumerate() {
-        if theory.same(task, open) {
-            return Some(i);
-        }
-    }
-    None
+    let least = least_place(theory, &ring);
+    ring.rotate_left(least);
+    ring
 }
 
-/// The tasks from a place on, turned so that the least name comes first.
+/// The tasks from a place on, turned so that the least comes first. Where there is no such place, all as they are.
 pub fn ring_from<Y: Program>(theory: &Y, mut tasks: Vec<Y::Task>, place: usize) -> Vec<Y::Task>
-    requires { place < length tasks.items }
-    ensures { IsTurned (Y.rules theory.now).at_most (drop place tasks.items) result.items }
+    ensures { place < length tasks.items → AllTasks (Y.rules theory.now) tasks.items →
+        IsTurned (Y.rules theory.now).at_most (drop place tasks.items) result.items }
 {
+    if place >= tasks.len() {
+        return tasks;
+    }
     let length = tasks.len() - place;
     tasks.rotate_left(place);
     tasks.truncate(length);
-    let least = least_place(theory, &tasks);
-    tasks.rotate_left(least);
-    tasks
+    turned(theory, tasks)
 }

@@ -32,13 +32,10 @@ pub fn load<Y: Program, B: Table<Y::Task, Y::Value>>(
     ensures order { IfOk result (λ loaded. (made : List (Y.Task × Y.Value))
         × Load (Y.rules theory.now) (B.at table.old) task made (B.at table.new) (is_done loaded)) }
 {
-    let mut loader = Loader::begin(alloc, theory, task);
+    let mut loader: Loader<Y> = Loader::begin(alloc, task);
     'steps: loop {
         match loader.step(alloc, theory)? {
-            LoadStep::Look(asked) => {
-                let found = table.defined(&asked);
-                loader.answer(theory, found)?;
-            }
+            LoadStep::Look(asked) => loader.answer(table.defined(&asked))?,
             LoadStep::Define(done, value) => table.define(done, value)?,
             LoadStep::Done => return Ok(Loaded::Done),
             LoadStep::Failed(failure) => return Ok(Loaded::Failed(failure)),

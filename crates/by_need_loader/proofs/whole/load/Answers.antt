@@ -1,130 +1,152 @@
 use Rattle.std.proofs.Common.{◌∷◌, [], ◌++◌, lt_trans}
+use Rattle.by_need_loader.specs.Progress.{History, nothing_done}
+use Rattle.by_need_loader.proofs.Goes.{begins}
 use Rattle.by_need_loader.proofs.Turns.{gains_none, defines, defined_part, defined_gains}
 use Rattle.by_need_loader.proofs.whole.load.Goals as goal
 
 pub steps-init : goal.steps-init
 steps-init g c =
     let r = g.Y.Theory.rules c.args.theory.now in
-    let laws = g.Y.Theory.laws c.args.theory.now in
     let J = g.B.Table.at c.args.table.now in
-    record {
-      ready = c.begin-loader.ensures.ready;
-      at =
-          ([], c.begin-loader.ensures.at J c.requires.task c.requires.part);
+    rw c.begin-loader.ensures (record {
+      ready = tt;
+      at = record {
+        made = [];
+        on = begins r (g.Y.Program.runs c.args.theory.now) (g.Y.Theory.laws c.args.theory.now)
+            (nothing_done c.args.task J) c.args.task J c.requires.task c.requires.part;
+      };
       part = c.requires.part;
-      gains =
-          gains_none r c.args.task J;
-    }
+      gains = gains_none r c.args.task J;
+    })
 
 pub steps-smaller-in-Look : goal.steps-smaller-in-Look
 steps-smaller-in-Look g c =
-    let r = g.Y.Theory.rules c.args.theory.now in
-    let laws = g.Y.Theory.laws c.args.theory.now in
-    let J = g.B.Table.at c.args.table.now in
-    let K = g.B.Table.at c.steps.table in
-    let s = rw c.in-Look.is at
-    (c.in_ok-asked.ensures c.args.task J K c.steps.invariant.at.0 c.steps.invariant.ready c.steps.invariant.at.1) in
-    let a = c.in_ok-answer-in-Look.ensures c.in-Look.asked c.args.task J K c.steps.invariant.at.0 s.0
-    c.defined-found.ensures s.1 in
-    lt_trans a.2 s.2
+    let h : History _ _ = record {
+      wanted = c.args.task;
+      at_first = g.B.Table.at c.args.table.now;
+      made = c.steps.invariant.at.made;
+      table = g.B.Table.at c.steps.table;
+    } in
+    let s = rw c.in-Look.is at (c.in_ok-asked.ensures h c.steps.invariant.ready c.steps.invariant.at.on) in
+    let a = c.in_ok-answer-in-Look.ensures c.args.theory.now h
+    (record { task = c.in-Look.asked; looks = s.tells.0; is = c.defined.ensures })
+    (record { keyed = s.keyed; at = s.tells.1 }) in
+    lt_trans a.less s.tells.2
 
 pub steps-preserved-in-Look : goal.steps-preserved-in-Look
 steps-preserved-in-Look g c =
-    let r = g.Y.Theory.rules c.args.theory.now in
-    let laws = g.Y.Theory.laws c.args.theory.now in
-    let J = g.B.Table.at c.args.table.now in
-    let K = g.B.Table.at c.steps.table in
-    let s = rw c.in-Look.is at
-    (c.in_ok-asked.ensures c.args.task J K c.steps.invariant.at.0 c.steps.invariant.ready c.steps.invariant.at.1) in
-    let a = c.in_ok-answer-in-Look.ensures c.in-Look.asked c.args.task J K c.steps.invariant.at.0 s.0
-    c.defined-found.ensures s.1 in
+    let h : History _ _ = record {
+      wanted = c.args.task;
+      at_first = g.B.Table.at c.args.table.now;
+      made = c.steps.invariant.at.made;
+      table = g.B.Table.at c.steps.table;
+    } in
+    let s = rw c.in-Look.is at (c.in_ok-asked.ensures h c.steps.invariant.ready c.steps.invariant.at.on) in
+    let a = c.in_ok-answer-in-Look.ensures c.args.theory.now h
+    (record { task = c.in-Look.asked; looks = s.tells.0; is = c.defined.ensures })
+    (record { keyed = s.keyed; at = s.tells.1 }) in
     record {
-      ready = a.0;
-      at = (c.steps.invariant.at.0, a.1);
+      ready = a.ready;
+      at = record { made = h.made; on = a.on };
       part = c.steps.invariant.part;
-      gains =
-          c.steps.invariant.gains;
+      gains = c.steps.invariant.gains;
     }
 
 pub define-requires : goal.define-requires
 define-requires g c =
-    let r = g.Y.Theory.rules c.args.theory.now in
-    let laws = g.Y.Theory.laws c.args.theory.now in
-    let J = g.B.Table.at c.args.table.now in
-    let K = g.B.Table.at c.steps.table in
-    let s = rw c.in-Define.is at
-    (c.in_ok-asked.ensures c.args.task J K c.steps.invariant.at.0 c.steps.invariant.ready c.steps.invariant.at.1) in
-    s.1
+    let h : History _ _ = record {
+      wanted = c.args.task;
+      at_first = g.B.Table.at c.args.table.now;
+      made = c.steps.invariant.at.made;
+      table = g.B.Table.at c.steps.table;
+    } in
+    let s = rw c.in-Define.is at (c.in_ok-asked.ensures h c.steps.invariant.ready c.steps.invariant.at.on) in
+    s.tells.1
 
 pub steps-smaller : goal.steps-smaller
 steps-smaller g c =
+    let h : History _ _ = record {
+      wanted = c.args.task;
+      at_first = g.B.Table.at c.args.table.now;
+      made = c.steps.invariant.at.made;
+      table = g.B.Table.at c.steps.table;
+    } in
+    let s = rw c.in-Define.is at (c.in_ok-asked.ensures h c.steps.invariant.ready c.steps.invariant.at.on) in
     let r = g.Y.Theory.rules c.args.theory.now in
     let laws = g.Y.Theory.laws c.args.theory.now in
-    let J = g.B.Table.at c.args.table.now in
-    let K = g.B.Table.at c.steps.table in
-    let s = rw c.in-Define.is at
-    (c.in_ok-asked.ensures c.args.task J K c.steps.invariant.at.0 c.steps.invariant.ready c.steps.invariant.at.1) in
-    let N = g.B.Table.at c.define.new.self in
+    let L = g.B.Table.at c.define.new.self in
     let e = c.in_ok-define-in-Define.ensures in
-    let x = s.4 N (defines r laws c.args.task J K N c.in-Define.done c.in-Define.value s.1 s.2 s.3 e.new e.old) in
+    let x = s.tells.4 L (defines r laws c.args.task h.at_first h.table L c.in-Define.done c.in-Define.value s.tells.1
+    s.tells.2 s.tells.3 e.new e.old) in
     x.1
 
 pub steps-preserved : goal.steps-preserved
 steps-preserved g c =
+    let h : History _ _ = record {
+      wanted = c.args.task;
+      at_first = g.B.Table.at c.args.table.now;
+      made = c.steps.invariant.at.made;
+      table = g.B.Table.at c.steps.table;
+    } in
+    let s = rw c.in-Define.is at (c.in_ok-asked.ensures h c.steps.invariant.ready c.steps.invariant.at.on) in
     let r = g.Y.Theory.rules c.args.theory.now in
     let laws = g.Y.Theory.laws c.args.theory.now in
-    let J = g.B.Table.at c.args.table.now in
-    let K = g.B.Table.at c.steps.table in
-    let s = rw c.in-Define.is at
-    (c.in_ok-asked.ensures c.args.task J K c.steps.invariant.at.0 c.steps.invariant.ready c.steps.invariant.at.1) in
-    let N = g.B.Table.at c.define.new.self in
+    let L = g.B.Table.at c.define.new.self in
     let e = c.in_ok-define-in-Define.ensures in
-    let x = s.4 N (defines r laws c.args.task J K N c.in-Define.done c.in-Define.value s.1 s.2 s.3 e.new e.old) in
+    let x = s.tells.4 L (defines r laws c.args.task h.at_first h.table L c.in-Define.done c.in-Define.value s.tells.1
+    s.tells.2 s.tells.3 e.new e.old) in
     record {
-      ready = s.0;
-      at = (c.steps.invariant.at.0 ++ (c.in-Define.done, c.in-Define.value) ∷ [], x.0);
-      part = defined_part r laws c.args.task J K N c.in-Define.done c.in-Define.value s.1 s.2 s.3 e.new e.old
-          c.steps.invariant.part;
-      gains = defined_gains r laws c.args.task J K N c.in-Define.done c.in-Define.value s.1 s.2 s.3 e.new e.old
-          c.steps.invariant.gains;
+      ready = s.tells.0;
+      at = record {
+        made = h.made ++ (c.in-Define.done, c.in-Define.value) ∷ [];
+        on = record { keyed = s.keyed; at = x.0 };
+      };
+      part = defined_part r laws c.args.task h.at_first h.table L c.in-Define.done c.in-Define.value s.tells.1
+          s.tells.2 s.tells.3 e.new e.old c.steps.invariant.part;
+      gains = defined_gains r laws c.args.task h.at_first h.table L c.in-Define.done c.in-Define.value s.tells.1
+          s.tells.2 s.tells.3 e.new e.old c.steps.invariant.gains;
     }
 
 pub returns-in-Done-clause-ends : goal.returns-in-Done-clause-ends
 returns-in-Done-clause-ends g c =
-    let r = g.Y.Theory.rules c.args.theory.now in
-    let laws = g.Y.Theory.laws c.args.theory.now in
-    let J = g.B.Table.at c.args.table.now in
-    let K = g.B.Table.at c.steps.table in
-    let s = rw c.in-Done.is at
-    (c.in_ok-asked.ensures c.args.task J K c.steps.invariant.at.0 c.steps.invariant.ready c.steps.invariant.at.1) in
-    (s.0, s.1, s.2)
+    let h : History _ _ = record {
+      wanted = c.args.task;
+      at_first = g.B.Table.at c.args.table.now;
+      made = c.steps.invariant.at.made;
+      table = g.B.Table.at c.steps.table;
+    } in
+    let s = rw c.in-Done.is at (c.in_ok-asked.ensures h c.steps.invariant.ready c.steps.invariant.at.on) in
+    (s.tells.0, s.tells.1, s.tells.2)
 
 pub returns-in-Done-clause-order : goal.returns-in-Done-clause-order
 returns-in-Done-clause-order g c =
-    let r = g.Y.Theory.rules c.args.theory.now in
-    let laws = g.Y.Theory.laws c.args.theory.now in
-    let J = g.B.Table.at c.args.table.now in
-    let K = g.B.Table.at c.steps.table in
-    let s = rw c.in-Done.is at
-    (c.in_ok-asked.ensures c.args.task J K c.steps.invariant.at.0 c.steps.invariant.ready c.steps.invariant.at.1) in
-    (c.steps.invariant.at.0, s.3)
+    let h : History _ _ = record {
+      wanted = c.args.task;
+      at_first = g.B.Table.at c.args.table.now;
+      made = c.steps.invariant.at.made;
+      table = g.B.Table.at c.steps.table;
+    } in
+    let s = rw c.in-Done.is at (c.in_ok-asked.ensures h c.steps.invariant.ready c.steps.invariant.at.on) in
+    (h.made, s.tells.3)
 
 pub returns-in-Failed-clause-ends : goal.returns-in-Failed-clause-ends
 returns-in-Failed-clause-ends g c =
-    let r = g.Y.Theory.rules c.args.theory.now in
-    let laws = g.Y.Theory.laws c.args.theory.now in
-    let J = g.B.Table.at c.args.table.now in
-    let K = g.B.Table.at c.steps.table in
-    let s = rw c.in-Failed.is at
-    (c.in_ok-asked.ensures c.args.task J K c.steps.invariant.at.0 c.steps.invariant.ready c.steps.invariant.at.1) in
-    (s.0, s.1)
+    let h : History _ _ = record {
+      wanted = c.args.task;
+      at_first = g.B.Table.at c.args.table.now;
+      made = c.steps.invariant.at.made;
+      table = g.B.Table.at c.steps.table;
+    } in
+    let s = rw c.in-Failed.is at (c.in_ok-asked.ensures h c.steps.invariant.ready c.steps.invariant.at.on) in
+    (s.tells.0, s.tells.1)
 
 pub returns-in-Failed-clause-order : goal.returns-in-Failed-clause-order
 returns-in-Failed-clause-order g c =
-    let r = g.Y.Theory.rules c.args.theory.now in
-    let laws = g.Y.Theory.laws c.args.theory.now in
-    let J = g.B.Table.at c.args.table.now in
-    let K = g.B.Table.at c.steps.table in
-    let s = rw c.in-Failed.is at
-    (c.in_ok-asked.ensures c.args.task J K c.steps.invariant.at.0 c.steps.invariant.ready c.steps.invariant.at.1) in
-    (c.steps.invariant.at.0, s.2)
+    let h : History _ _ = record {
+      wanted = c.args.task;
+      at_first = g.B.Table.at c.args.table.now;
+      made = c.steps.invariant.at.made;
+      table = g.B.Table.at c.steps.table;
+    } in
+    let s = rw c.in-Failed.is at (c.in_ok-asked.ensures h c.steps.invariant.ready c.steps.invariant.at.on) in
+    (h.made, s.tells.2)

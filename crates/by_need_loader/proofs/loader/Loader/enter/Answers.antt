@@ -1,30 +1,35 @@
-use Rattle.std.proofs.Common.{refl, sym, ap, ◌∙◌}
+use Rattle.std.proofs.Common.{sym, ap, ◌∙◌, refl}
 use Rattle.by_need.specs.Asking.{over}
 use Rattle.by_need_loader.proofs.Lists.{if_ok}
-use Rattle.by_need_loader.proofs.Told.{entered, tells_ring}
+use Rattle.by_need_loader.proofs.Goes.{enters, stands, says_ring}
 use Rattle.by_need_loader.proofs.loader.Loader.enter.Goals as goal
 
-pub returns-in-Some : goal.returns-in-Some
-returns-in-Some g c =
+pub returns-in_ok-running-in-Ok-default-true : goal.returns-in_ok-running-in-Ok-default-true
+returns-in_ok-running-in-Ok-default-true g c =
     let r = g.Y.Theory.rules c.args.theory.now in
-    let branch = g.Y.Program.branch c.args.theory.now in
-    let rest = g.Y.Program.rest c.args.theory.now in
+    let m = g.Y.Program.runs c.args.theory.now in
     let laws = g.Y.Theory.laws c.args.theory.now in
-    λ wanted J K made bound o b n le. tells_ring r branch rest laws wanted J made K c.args.self.now.tasks.items
-    c.args.self.now.waiting.items c.args.task o b n c.in-Some.place c.ring_from.result.items
-    (rw c.deref.ensures.value at c.in-Some.ensures.there.0)
-    (rw c.deref.ensures.value at c.in-Some.ensures.there.1)
-    (rw c.replace-tasks.ensures.value at c.ring_from.ensures)
+    let new = c.in-Ok-default-true.ensures in
+    rw (← c.self.view_is)
+    (if_ok c.go_on.result (λ told f h bound w none le.
+    let e = enters r m laws h _ c.args.task w none g.Y.Key.PartialEq.eq (g.met.Y.Program.tells_apart c.args.theory.now) c.in_ok-key.key
+    c.in_ok-key.ensures _ c.in_ok-running-in-Ok-default-true.running bound
+    (sym c.in-Ok-default-true.field-0-1-test ∙ new.added) new.keys
+    (λ L. g.met.Y.Program.follows c.args.theory.now c.args.task L
+    ∙ ap (over L) (sym c.in_ok-running-in-Ok-default-true.ensures)) le in f h bound e.keyed e.runs e.less)
+    c.go_on.ensures)
 
-pub returns-in_ok-running-in-None : goal.returns-in_ok-running-in-None
-returns-in_ok-running-in-None g c =
+pub returns-in-Ok-default-false : goal.returns-in-Ok-default-false
+returns-in-Ok-default-false g c =
     let r = g.Y.Theory.rules c.args.theory.now in
-    let branch = g.Y.Program.branch c.args.theory.now in
-    let rest = g.Y.Program.rest c.args.theory.now in
+    let m = g.Y.Program.runs c.args.theory.now in
     let laws = g.Y.Theory.laws c.args.theory.now in
-    if_ok c.go_on.result (λ told f wanted J K made bound o b n le. let e =
-    entered r branch rest laws wanted J made K c.args.self.now.tasks.items c.args.self.now.waiting.items
-    c.args.task o b n (rw c.deref.ensures.value at (c.in-None.ensures.missing refl))
-    c.in_ok-running-in-None.running (λ L. g.met.Y.Program.runs c.args.theory.now c.args.task L
-    ∙ ap (over L) (sym c.in_ok-running-in-None.ensures)) bound le in f wanted J K made bound e.0 e.1)
-    c.go_on.ensures
+    let old = c.in-Ok-default-false.ensures in
+    rw (← c.self.view_is)
+    (λ h bound w none le.
+    let s = stands r m laws h _ c.args.task w none g.Y.Key.PartialEq.eq (g.met.Y.Program.tells_apart c.args.theory.now) c.in_ok-key.key
+    c.in_ok-key.ensures _ c.in-Ok-default-false.place old.stored.0
+    (sym c.in-Ok-default-false.field-0-1-test ∙ old.added) old.keys old.within old.stored.1 old.stored.2 in
+    says_ring r m laws h _ c.args.task w none g.Y.Key.PartialEq.eq (g.met.Y.Program.tells_apart c.args.theory.now) c.in_ok-key.key
+    c.in_ok-key.ensures _ bound c.in-Ok-default-false.place _ c.ring_from.result.items s refl
+    (rw c.replace-tasks.ensures.value at c.ring_from.ensures))
