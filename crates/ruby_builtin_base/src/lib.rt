@@ -1,0 +1,17 @@
+//! What the built-in methods of every kind stand on: what a call is, what it costs, how it answers, and how values and
+//! errors are printed.
+//!
+//! A row is defined as what it comes to by its arguments, `takes_int (λ m. ..)` of `specs/Arguments.antt`, and a call
+//! of it answers by `specs/Answers.antt`. In code a row is an arm that reads its arguments with [`Call::one_int`] and
+//! its like and answers with [`Call::gives`]:
+//! `PLUS => Ok(call.gives(Value::Int(sum(n, call.one_int()?)?)))`.
+#![tactic(auto)]
+
+mod answer;
+mod arguments;
+mod call;
+mod called;
+
+pub use arguments::wrong_count_text;
+pub use call::Call;
+pub use called::Called;
