@@ -4,6 +4,7 @@ ghost use Rattle.outside.specs.Tree.{IsSized, paths_of};
 ghost use Rattle.outside.specs.Watched.{ListsWatched};
 
 use crate::fault::{FolderFault, is_gone};
+use crate::input::read_some;
 use crate::listing::find_files;
 use crate::ordered::OrderedFiles;
 use lists::{Listed, Text};
@@ -12,7 +13,7 @@ use outside::{
 };
 use std::alloc::{AllocError, Global};
 use std::fs::File;
-use std::io::{ErrorKind, Read};
+use std::io::Read;
 use std::rt::Files;
 use std::{io, str};
 
@@ -46,16 +47,10 @@ fn fill<F: Read>(file: &mut F, room: &mut [u8]) -> io::Result<usize>
     ensures { IfOk result (λ count. count ≤ length room.old) }
 {
     let mut filled = 0;
-    'reads: for _ in 0..u64::MAX {
-        if filled == room.len() {
-            break;
-        }
-        match file.read(&mut room[filled..]) {
-            Ok(0) => break,
-            Ok(count) => filled += count,
-            Err(error) => if error.kind() != ErrorKind::Interrupted {
-                return Err(error);
-            },
+    'reads: while filled < room.len() {
+        match read_some(file, &mut room[filled..])? {
+            0 => break,
+            count => filled += count,
         }
     }
     Ok(filled)

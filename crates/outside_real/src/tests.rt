@@ -1,7 +1,12 @@
-//! Folders made for the tests and read whole, and bytes sent to standard output.
-use crate::{FolderFault, FolderTree, StdoutSink};
-use outside::{Sink, Snapshot, Stamps, StampsAns, Tree, TreeAns, WriteAns, are_within_limits};
+//! Folders made for the tests and read whole, bytes sent to standard output, and a connection from end to end.
+use crate::{FolderFault, FolderTree, StdinSource, StdoutSink, TcpLink, TcpPort};
+use outside::{
+    Delivery, ReadAns, Sink, Snapshot, Source, Stamps, StampsAns, Tree, TreeAns, WriteAns,
+    are_within_limits,
+};
+use outside_links::{Link, Port, PortAns, send_all};
 use std::fs::{File, OpenFile};
+use std::net::{TcpListener, TcpStream};
 use std::os::unix::fs::symlink;
 use std::process::Abort;
 use std::test::Fail;
@@ -156,5 +161,34 @@ fn standard_output_takes_bytes(rt: HostRuntime) -> Result<(), Fail> {
         WriteAns::Took(count) => assert!(rt; 1 <= count && count <= line.len()),
         WriteAns::Failed => return Err(Fail::new("nothing was taken")),
     }
+    Ok(())
+}
+
+#[test]
+fn a_source_gives_what_its_input_has(rt: HostRuntime) -> Result<(), Fail> {
+    let mut source = StdinSource::new(b"abc".as_slice());
+    let mut room = [b'.'; 2];
+    assert_eq!(rt; source.read(&mut room), ReadAns::Got(2));
+    assert_eq!(rt; source.read(&mut room), ReadAns::Got(1));
+    assert_eq!(rt; source.read(&mut room), ReadAns::End);
+    assert_eq!(rt; room.as_slice(), b"cb".as_slice());
+    Ok(())
+}
+
+#[test]
+fn a_port_gives_as_many_connections_as_it_was_made_for(rt: HostRuntime) -> Result<(), Fail> {
+    let listener = TcpListener::bind(&rt, "127.0.0.1:0")?;
+    let address = listener.local_addr()?;
+    let mut client = TcpLink::new(TcpStream::connect(&rt, address)?);
+    let mut port = TcpPort::new(listener, Some(1));
+    let PortAns::Link(mut link) = port.accept() else {
+        return Err(Fail::new("no connection was given"));
+    };
+    assert!(rt; matches!(port.accept(), PortAns::End));
+    assert_eq!(rt; send_all(&mut client, b"ab"), Delivery::Whole);
+    let mut room = [b'.'; 4];
+    assert_eq!(rt; link.read(&mut room), ReadAns::Got(2));
+    drop(link);
+    assert_eq!(rt; client.read(&mut room), ReadAns::End);
     Ok(())
 }
