@@ -8,8 +8,8 @@ use std::marker::Model;
 
 /// The right to take turns, and what was seen in them.
 ///
-/// Contracts see which lock it is of, its number, the next number that it gives, what it has seen, its row, and, between
-/// `enter` and `leave`, the value that `enter` gave.
+/// Contracts see which lock it is of, its number, the next number that it gives, what it has seen, its row, and the
+/// value that `enter` gave, between `enter` and `leave`.
 #[derive(Drop)]
 pub struct Ticket<B: Booked + Drop> {
     pub(crate) number: u32,
