@@ -8,7 +8,7 @@ ghost use Rattle.app_config.specs.Text.{words, behind_spaces, behind_word};
 use crate::config::{ConfigKind, ConfigText, ConfigTexts, LoadLine, RootLine};
 use crate::operands::{Operands, operands_of};
 use crate::paths::{is_constant, is_constant_path, is_tree_path};
-use crate::text::{cut, next_word, skip_spaces};
+use crate::text::{cut_at, next_word, skip_spaces};
 use std::alloc::{AllocError, Global};
 
 /// The word that begins a line.
@@ -80,12 +80,12 @@ fn constant_names(alloc: Global, word: &[u8]) -> Result<ConfigTexts, AllocError>
     let mut names = ConfigTexts::new(alloc);
     let mut rest = word;
     'names: loop {
-        let (name, behind) = cut(rest, b':');
+        let (name, behind) = cut_at(rest, b':');
         names.push(ConfigText::from_bytes(alloc, name)?)?;
         let Some(between) = behind else {
             return Ok(names);
         };
-        let (_, more) = cut(between, b':');
+        let (_, more) = cut_at(between, b':');
         let Some(next) = more else {
             return Ok(names);
         };
@@ -114,7 +114,7 @@ fn root_entry(alloc: Global, text: &[u8]) -> Result<Entry, ConfigKind>
     }))
 }
 
-fn pattern(alloc: Global, text: &[u8]) -> Result<ConfigText, ConfigKind>
+fn pattern_of(alloc: Global, text: &[u8]) -> Result<ConfigText, ConfigKind>
     ensures { Says result (spec.pattern (words text.now)) }
 {
     let Operands::One(path) = operands_of(text) else {
@@ -155,14 +155,14 @@ fn on_load_entry(alloc: Global, text: &[u8]) -> Result<Entry, ConfigKind>
 }
 
 /// What a directive says of the text behind it.
-fn directed(alloc: Global, directive: Directive, text: &[u8]) -> Result<Entry, ConfigKind>
+fn directed_entry(alloc: Global, directive: Directive, text: &[u8]) -> Result<Entry, ConfigKind>
     ensures { Says result (spec.directed (Some directive) (words text.now) (behind_spaces (behind_word text.now))) }
 {
     match directive {
         Directive::Root => root_entry(alloc, text),
-        Directive::Collapse => Ok(Entry::Collapse(pattern(alloc, text)?)),
-        Directive::Ignore => Ok(Entry::Ignore(pattern(alloc, text)?)),
-        Directive::SkipEager => Ok(Entry::SkipEager(pattern(alloc, text)?)),
+        Directive::Collapse => Ok(Entry::Collapse(pattern_of(alloc, text)?)),
+        Directive::Ignore => Ok(Entry::Ignore(pattern_of(alloc, text)?)),
+        Directive::SkipEager => Ok(Entry::SkipEager(pattern_of(alloc, text)?)),
         Directive::Inflect => inflect_entry(alloc, text),
         Directive::OnLoad => on_load_entry(alloc, text),
     }
@@ -190,7 +190,7 @@ fn filled_entry(alloc: Global, line: &[u8]) -> Result<Entry, ConfigKind>
     let Some(directive) = directive_of(word) else {
         return Err(ConfigKind::UnknownWord);
     };
-    directed(alloc, directive, text)
+    directed_entry(alloc, directive, text)
 }
 
 fn is_blank(line: &[u8]) -> bool

@@ -26,4 +26,4 @@ pub use paths::is_constant;
 pub use pattern_index::PatternIndex;
 pub use patterns::names;
 pub use reading::read;
-pub use text::cut;
+pub use text::cut_at;

@@ -1,10 +1,10 @@
 ghost use Rattle.std.specs.Prelude.{◌≡◌, option_copied};
 ghost use Rattle.app_config.specs.Loops.Matching as spec;
 
-use crate::text::cut;
+use crate::text::cut_at;
 
 /// What stands behind a piece at the front of a text.
-fn behind<'a>(text: &'a [u8], piece: &[u8]) -> Option<&'a [u8]>
+fn behind_front<'a>(text: &'a [u8], piece: &[u8]) -> Option<&'a [u8]>
     ensures { option_copied result ≡ spec.behind piece.now text.now }
 {
     text.strip_prefix(piece)
@@ -16,7 +16,7 @@ fn behind_first<'a>(text: &'a [u8], piece: &[u8]) -> Option<&'a [u8]>
 {
     let mut rest = text;
     'places: loop {
-        let found = behind(rest, piece);
+        let found = behind_front(rest, piece);
         if found.is_some() {
             return found;
         }
@@ -35,7 +35,7 @@ fn some_end_fits(pattern: &[u8], segment: &[u8]) -> bool
     let mut pattern = pattern;
     let mut segment = segment;
     'stars: loop {
-        let (piece, more) = cut(pattern, b'*');
+        let (piece, more) = cut_at(pattern, b'*');
         let Some(next) = more else {
             return segment.ends_with(piece);
         };
@@ -51,8 +51,8 @@ fn some_end_fits(pattern: &[u8], segment: &[u8]) -> bool
 pub(crate) fn segment_fits(pattern: &[u8], segment: &[u8]) -> bool
     ensures { result ≡ spec.segment_fits pattern.now segment.now }
 {
-    let (piece, more) = cut(pattern, b'*');
-    let Some(rest) = behind(segment, piece) else {
+    let (piece, more) = cut_at(pattern, b'*');
+    let Some(rest) = behind_front(segment, piece) else {
         return false;
     };
     match more {

@@ -1,7 +1,7 @@
 ghost use Rattle.std.specs.Prelude.{◌≡◌};
 ghost use Rattle.app_config.specs.Paths as spec;
 
-use crate::text::cut;
+use crate::text::cut_at;
 
 /// Whether a name is a constant name: an upper case letter, then letters, digits and `_`.
 pub fn is_constant(name: &[u8]) -> bool
@@ -30,7 +30,7 @@ pub(crate) fn is_constant_path(word: &[u8]) -> bool
 {
     let mut rest = word;
     'names: loop {
-        let (name, behind) = cut(rest, b':');
+        let (name, behind) = cut_at(rest, b':');
         if !is_constant(name) {
             return false;
         }
@@ -53,7 +53,7 @@ fn are_plain(path: &[u8]) -> bool
 {
     let mut rest = Some(path);
     'segments: while let Some(text) = rest {
-        let (segment, behind) = cut(text, b'/');
+        let (segment, behind) = cut_at(text, b'/');
         if !is_plain(segment) {
             return false;
         }
@@ -73,7 +73,7 @@ fn is_top(segment: &[u8]) -> bool
 pub(crate) fn is_tree_path(path: &[u8]) -> bool
     ensures { result ≡ spec.is_tree_path path.now }
 {
-    let (top, behind) = cut(path, b'/');
+    let (top, behind) = cut_at(path, b'/');
     match behind {
         None => false,
         Some(below) => is_top(top) && are_plain(below),

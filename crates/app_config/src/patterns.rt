@@ -4,7 +4,7 @@ ghost use Rattle.app_config.specs.Paths.{segments};
 ghost use Rattle.app_config.specs.Patterns.{Names};
 
 use crate::matching::segment_fits;
-use crate::text::cut;
+use crate::text::cut_at;
 
 /// Whether a pattern names a path. In a pattern `*` stands for any bytes inside one segment; a pattern names paths of
 /// the same number of segments. It takes no memory.
@@ -20,8 +20,8 @@ fn segments_fit(pattern: &[u8], path: &[u8]) -> bool
     let mut pattern = pattern;
     let mut path = path;
     'segments: loop {
-        let (wanted, patterns) = cut(pattern, b'/');
-        let (segment, below) = cut(path, b'/');
+        let (wanted, patterns) = cut_at(pattern, b'/');
+        let (segment, below) = cut_at(path, b'/');
         if !segment_fits(wanted, segment) {
             return false;
         }

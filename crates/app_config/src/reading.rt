@@ -4,7 +4,7 @@ ghost use Rattle.app_config.specs.Entries.{meaning};
 
 use crate::config::{Config, ConfigFault, ConfigKind};
 use crate::entries::{Entry, read_line};
-use crate::text::{cut, trimmed};
+use crate::text::{cut_at, trimmed_line};
 use std::alloc::{AllocError, Global};
 
 const WANT_OF_MEMORY: ConfigFault = ConfigFault {
@@ -12,7 +12,7 @@ const WANT_OF_MEMORY: ConfigFault = ConfigFault {
     kind: ConfigKind::Memory,
 };
 
-fn add(config: &mut Config, entry: Entry) -> Result<(), AllocError>
+fn add_entry(config: &mut Config, entry: Entry) -> Result<(), AllocError>
     ensures { OnOk result (config.new ≡ with_entry config.old entry) }
 {
     match entry {
@@ -34,7 +34,7 @@ fn add_line(alloc: Global, config: &mut Config, line: &[u8]) -> Result<(), Confi
     match read_line(alloc, line)? {
         None => Ok(()),
         Some(entry) => {
-            add(config, entry)?;
+            add_entry(config, entry)?;
             Ok(())
         }
     }
@@ -54,8 +54,8 @@ pub fn read(alloc: Global, bytes: &[u8]) -> Result<Config, ConfigFault>
     let mut rest = Some(bytes);
     let mut number = 0usize;
     'lines: while let Some(text) = rest {
-        let (line, behind) = cut(text, b'\n');
-        match add_line(alloc, &mut config, trimmed(line)) {
+        let (line, behind) = cut_at(text, b'\n');
+        match add_line(alloc, &mut config, trimmed_line(line)) {
             Ok(()) => {
                 number += 1;
                 rest = behind;

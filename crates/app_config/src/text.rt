@@ -14,7 +14,7 @@ fn place_of(text: &[u8], byte: u8) -> Option<usize>
 }
 
 /// What stands before the first `byte` of a text, and what stands behind it, where there is one.
-pub fn cut(text: &[u8], byte: u8) -> (&[u8], Option<&[u8]>)
+pub fn cut_at(text: &[u8], byte: u8) -> (&[u8], Option<&[u8]>)
     ensures front { All (λ b. b ≢ byte) result.0.now }
     ensures whole { MatchOption result.1 (text.now ≡ result.0.now)
         (λ rest. text.now ≡ result.0.now ++ byte ∷ rest.now) }
@@ -32,7 +32,7 @@ pub fn cut(text: &[u8], byte: u8) -> (&[u8], Option<&[u8]>)
 }
 
 /// A line without the CR that may end it.
-pub(crate) fn trimmed(line: &[u8]) -> &[u8]
+pub(crate) fn trimmed_line(line: &[u8]) -> &[u8]
     ensures { result.now ≡ without_return line.now }
 {
     match line {
@@ -62,7 +62,7 @@ pub(crate) fn next_word(text: &[u8]) -> Option<(&[u8], &[u8])>
     if text.is_empty() {
         return None;
     }
-    let (word, behind) = cut(text, b' ');
+    let (word, behind) = cut_at(text, b' ');
     match behind {
         Some(rest) => Some((word, rest)),
         None => Some((word, &[])),

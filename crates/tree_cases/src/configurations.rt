@@ -31,7 +31,9 @@ fn each_kind_of_line_fills_its_field(rt: HostRuntime) -> Result<(), Fail> {
     assert_eq!(rt; load.text.as_bytes(), b"is  ready ".as_slice());
     assert_eq!(rt; load.constant.len(), 2);
     assert_eq!(rt; config.inflect.len(), 2);
-    let last = config.inflection(b"api").map(|constant| constant.as_bytes());
+    let last = config
+        .inflection(b"api")
+        .map(|constant| constant.as_bytes());
     assert_eq!(rt; last, Some(b"Api".as_slice()));
     assert!(rt; config.inflection(b"ap").is_none());
     Ok(())
@@ -66,7 +68,10 @@ fn bytes_that_are_no_text_are_judged_first(rt: HostRuntime) {
         b"inflect a \xff",
     ];
     for text in texts {
-        assert!(rt; is_faulty(&rt, rt.alloc(), text, 1, ConfigKind::NotUtf8), "{text:?}");
+        assert!(rt;
+            is_faulty(&rt, rt.alloc(), text, 1, ConfigKind::NotUtf8),
+            "{text:?}"
+        );
     }
 }
 
@@ -78,6 +83,14 @@ fn ten_thousand_lines_are_counted(rt: HostRuntime) -> Result<(), Fail> {
     }
     assert_eq!(rt; config_of(&rt, rt.alloc(), &text)?.inflect.len(), 10_000);
     text.extend_from_slice(b"bogus")?;
-    assert!(rt; is_faulty(&rt, rt.alloc(), text.as_slice(), 10_001, ConfigKind::UnknownWord));
+    assert!(rt;
+        is_faulty(
+            &rt,
+            rt.alloc(),
+            text.as_slice(),
+            10_001,
+            ConfigKind::UnknownWord
+        )
+    );
     Ok(())
 }

@@ -32,7 +32,10 @@ fn more_than_4096_files_are_too_many(rt: HostRuntime) -> Result<(), Fail> {
     let many = vec![in alloc; path; 4_096]?;
     let more = vec![in alloc; path; 4_097]?;
     assert_eq!(rt; told(alloc, many.as_slice(), 0)?.as_slice(), b"".as_slice());
-    assert_eq!(rt; told(alloc, more.as_slice(), 0)?.as_slice(), b"limit: files 4097\n".as_slice());
+    assert_eq!(rt;
+        told(alloc, more.as_slice(), 0)?.as_slice(),
+        b"limit: files 4097\n".as_slice()
+    );
     assert!(rt; is_within_limits(&[]));
     Ok(())
 }
@@ -57,7 +60,10 @@ fn the_first_path_of_more_than_255_bytes_is_too_long(rt: HostRuntime) -> Result<
     let longer = vec![in alloc; b'a'; 300]?;
     let paths = [short.as_slice(), long.as_slice(), longer.as_slice()];
     assert_eq!(rt; told(alloc, &paths[..1], 0)?.as_slice(), b"".as_slice());
-    assert_eq!(rt; told(alloc, &paths, 0)?.as_slice(), b"limit: path 256\n".as_slice());
+    assert_eq!(rt;
+        told(alloc, &paths, 0)?.as_slice(),
+        b"limit: path 256\n".as_slice()
+    );
     Ok(())
 }
 

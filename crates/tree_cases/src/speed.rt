@@ -9,8 +9,9 @@ use std::time::{Duration, Instant};
 fn long_configuration(alloc: Global) -> Result<Vec<u8>, AllocError> {
     let mut text = Vec::new(alloc);
     for number in 0..20_000u32 {
-        let lines =
-            format!(in alloc; "ignore app/models/old_{number}\ninflect base_{number} Base{number}\n")?;
+        let lines = format!(in alloc;
+            "ignore app/models/old_{number}\ninflect base_{number} Base{number}\n"
+        )?;
         text.extend_from_slice(lines.as_bytes())?;
     }
     for number in 0..100u32 {

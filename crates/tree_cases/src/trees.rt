@@ -50,12 +50,7 @@ fn constant(alloc: Global, names: &[&str]) -> Result<CPath, AllocError> {
 
 /// A constant, what stands for it in an application of `admin.rb`, `admin/user.rb` and `x/y.rb` below one root, its
 /// file, and how many constants are inside it.
-type Found = (
-    &'static [&'static str],
-    Option<Site>,
-    Option<u32>,
-    usize,
-);
+type Found = (&'static [&'static str], Option<Site>, Option<u32>, usize);
 
 const FOUND: [Found; 6] = [
     (&[], None, None, 2),

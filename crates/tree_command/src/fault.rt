@@ -2,15 +2,26 @@ ghost use Rattle.std.specs.Prelude.{◌≡◌};
 
 use app_config::{ConfigFault, ConfigKind};
 use std::alloc::AllocError;
+use std::fmt;
+use thiserror::Error;
 use tree_report::Refusal;
 use tree_scan::ScanFault;
 
 /// Why an application has no listing.
-#[derive(Drop)]
+#[derive(Drop, Error)]
 pub enum ListingFault {
+    /// The application is refused, and its line says why.
+    #[error("the application is refused, print its refusal")]
     Refused(Refusal),
     /// Memory ran out.
+    #[error("out of memory, try again with more")]
     Memory,
+}
+
+impl fmt::Debug for ListingFault {
+    fn fmt<W: fmt::Write>(&self, f: &mut fmt::Formatter<W>) -> fmt::Result {
+        fmt::Display::fmt(self, f)
+    }
 }
 
 impl From<AllocError> for ListingFault {

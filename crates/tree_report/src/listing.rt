@@ -93,7 +93,7 @@ fn push_all_shadowed(bytes: &mut Vec<u8>, paths: &[FilePath]) -> Result<(), Allo
     Ok(())
 }
 
-fn sort(sites: &mut Vec<ListedSite>) -> Result<(), AllocError>
+fn sort_sites(sites: &mut Vec<ListedSite>) -> Result<(), AllocError>
     ensures { OnOk result (IsInOrder sites.old.items sites.new.items) }
 {
     sites.sort_by(|first, second| first.constant.as_bytes().cmp(second.constant.as_bytes()))?;
@@ -109,7 +109,7 @@ pub fn print_listing(
     ensures { IfOk result (λ bytes. IsListing sites.items shadowed.now bytes.items) }
 {
     let mut listed = sites;
-    sort(&mut listed)?;
+    sort_sites(&mut listed)?;
     let mut bytes = Vec::new(alloc);
     push_sites(&mut bytes, listed.as_slice())?;
     push_all_shadowed(&mut bytes, shadowed)?;

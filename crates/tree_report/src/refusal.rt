@@ -59,7 +59,7 @@ fn fault_text(alloc: Global, fault: ConfigFault) -> Result<String, AllocError>
     Ok(text)
 }
 
-fn joined(alloc: Global, front: &[u8], back: &[u8]) -> Result<Vec<u8>, AllocError>
+fn joined_bytes(alloc: Global, front: &[u8], back: &[u8]) -> Result<Vec<u8>, AllocError>
     ensures { IfOk result (λ bytes. bytes.items ≡ front.now ++ back.now) }
 {
     let mut bytes = Vec::from_slice(alloc, front)?;
@@ -75,8 +75,8 @@ impl Refusal {
         match self {
             Refusal::Limit(exceeded) => Ok(limit_text(alloc, *exceeded)?.into_bytes()),
             Refusal::Configuration(fault) => Ok(fault_text(alloc, *fault)?.into_bytes()),
-            Refusal::BadName(path) => joined(alloc, b"bad name: ", path.as_bytes()),
-            Refusal::TwoRoots(path) => joined(alloc, b"two roots: ", path.as_bytes()),
+            Refusal::BadName(path) => joined_bytes(alloc, b"bad name: ", path.as_bytes()),
+            Refusal::TwoRoots(path) => joined_bytes(alloc, b"two roots: ", path.as_bytes()),
         }
     }
 

@@ -33,7 +33,7 @@ fn push_names(path: &mut TextList, names: &[Text]) -> Result<(), AllocError>
 }
 
 /// A namespace's path with these names behind it.
-fn joined(alloc: Global, namespace: &CPath, names: &[Text]) -> Result<CPath, AllocError>
+fn joined_path(alloc: Global, namespace: &CPath, names: &[Text]) -> Result<CPath, AllocError>
     ensures { IfOk result (λ path. path ≡ namespace.now ++ names.now) }
 {
     let mut path = TextList::from_slice(alloc, namespace.as_slice())?;
@@ -69,7 +69,7 @@ fn constant_of(
     let root = root_at(roots, number);
     match names_below(alloc, rules, path, root.path.len())? {
         Spelling::Names(names) => Ok(Some(RootedConstant {
-            path: joined(alloc, &root.namespace, names.as_slice())?,
+            path: joined_path(alloc, &root.namespace, names.as_slice())?,
             root: number,
         })),
         Spelling::Nothing => Ok(None),

@@ -16,7 +16,7 @@ pub fn camelize(alloc: Global, base: &[u8], config: &Config) -> Result<Text, All
 {
     match config.inflection(base) {
         Some(constant) => constant.copy(),
-        None => camelized(alloc, base),
+        None => camelized_base(alloc, base),
     }
 }
 
@@ -30,12 +30,12 @@ pub(crate) fn camelize_by(
 {
     match rules.inflection(base) {
         Some(constant) => constant.copy(),
-        None => camelized(alloc, base),
+        None => camelized_base(alloc, base),
     }
 }
 
 /// The pieces of a base name between `_`, each with its first byte in upper case and the rest in lower case, joined.
-fn camelized(alloc: Global, base: &[u8]) -> Result<Text, AllocError>
+fn camelized_base(alloc: Global, base: &[u8]) -> Result<Text, AllocError>
     ensures { IfOk result (λ name. name ≡ spec.camelized base.now) }
 {
     let mut name = Vec::new(alloc);
@@ -44,7 +44,7 @@ fn camelized(alloc: Global, base: &[u8]) -> Result<Text, AllocError>
         if *byte == b'_' {
             begins = true;
         } else {
-            name.push(cased(*byte, begins))?;
+            name.push(cased_byte(*byte, begins))?;
             begins = false;
         }
     }
@@ -52,7 +52,7 @@ fn camelized(alloc: Global, base: &[u8]) -> Result<Text, AllocError>
 }
 
 /// A byte in upper case where it begins a piece, else in lower case.
-fn cased(byte: u8, begins: bool) -> u8
+fn cased_byte(byte: u8, begins: bool) -> u8
     ensures { result ≡ (if begins then to_ascii_uppercase byte else to_ascii_lowercase byte) }
 {
     if begins {

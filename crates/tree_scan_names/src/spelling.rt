@@ -7,7 +7,7 @@ ghost use Rattle.tree_scan_names.specs.Spellings.{above, behind, IsSpelling};
 use crate::camel::camelize_by;
 use crate::counts::is_passed_over;
 use crate::rules::NamingRules;
-use crate::steps::{around, step_below};
+use crate::steps::{parts_around, step_below};
 use app_config::{Config, is_constant};
 use ruby_types::{Text, TextList};
 use std::alloc::{AllocError, Global};
@@ -38,13 +38,13 @@ pub fn names_below(
     ensures only { IfOk result (λ spelling. (other : Spelling) →
         IsSpelling rules.now (above path.now root_length) (behind path.now root_length) other → other ≡ spelling) }
 {
-    let (root, below) = around(path, root_length);
+    let (root, below) = parts_around(path, root_length);
     if is_passed_over(rules, path, root, below) {
         return Ok(Spelling::Nothing);
     }
     match spelled_names(alloc, rules, path, root, below)? {
         None => Ok(Spelling::Nothing),
-        Some(names) => Ok(judged(names)),
+        Some(names) => Ok(judged_names(names)),
     }
 }
 
@@ -62,7 +62,7 @@ fn are_constants(names: &[Text]) -> bool
 }
 
 /// The names of a file that counts, unless some of them is no constant name.
-fn judged(names: TextList) -> Spelling
+fn judged_names(names: TextList) -> Spelling
     ensures { result ≡ (if list_all is_constant names then Spelling.Names names else Spelling.BadName) }
 {
     if are_constants(names.as_slice()) {

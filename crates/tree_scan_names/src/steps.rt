@@ -3,10 +3,10 @@ ghost use Rattle.plain_text.specs.Segments.{IsPiece};
 ghost use Rattle.tree_scan_names.specs.Below.{within};
 ghost use Rattle.tree_scan_names.specs.Spellings as whole;
 
-use app_config::cut;
+use app_config::cut_at;
 
 /// What stands before the slash at a place of a path, and what stands behind it.
-pub(crate) fn around(path: &[u8], slash: usize) -> (&[u8], &[u8])
+pub(crate) fn parts_around(path: &[u8], slash: usize) -> (&[u8], &[u8])
     requires inside { slash < length path.now }
     requires slash { slice_index path.now slash ≡ 47 }
     ensures above { result.0.now ≡ whole.above path.now slash }
@@ -32,7 +32,7 @@ pub(crate) fn step_below<'a>(path: &'a [u8], directory: &[u8], below: &'a [u8]) 
     ensures parts { MatchOption result.below (below.now ≡ result.name.now)
         (λ rest. below.now ≡ within result.name.now rest.now) }
 {
-    let (name, rest) = cut(below, b'/');
+    let (name, rest) = cut_at(below, b'/');
     let place = &path[..directory.len() + 1 + name.len()];
     Step {
         name,

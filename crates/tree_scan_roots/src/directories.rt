@@ -4,7 +4,7 @@ ghost use Rattle.outside.specs.Tree.{paths_of};
 ghost use Rattle.tree_scan_roots.specs.Directories.{IsName, IsRootName, IsTopRoot, IsConcerns, IsDefaultRoot, IsAbove};
 ghost use Rattle.tree_scan_roots.specs.Keys.{Has};
 
-use app_config::cut;
+use app_config::cut_at;
 use outside::FileEntry;
 use std::alloc::{AllocError, Global};
 use std::collections::BTreeSet;
@@ -17,7 +17,7 @@ fn first_name(path: &[u8]) -> Option<(&[u8], &[u8])>
     ensures { MatchOption result (IsName path.now) (λ parts. IsName parts.0.now
         × (path.now ≡ parts.0.now ++ 47 ∷ parts.1.now)) }
 {
-    let (name, behind) = cut(path, b'/');
+    let (name, behind) = cut_at(path, b'/');
     match behind {
         None => None,
         Some(below) => Some((name, below)),
@@ -70,7 +70,7 @@ fn top_root(path: &[u8]) -> Option<&[u8]>
 }
 
 /// The directory `app/*/concerns` that is above a path.
-fn concerns(path: &[u8]) -> Option<&[u8]>
+fn concerns_above(path: &[u8]) -> Option<&[u8]>
     ensures { (directory : List ℕ) →
         (option_copied result ≡ Some directory) ↔ (IsConcerns directory × IsAbove directory path.now) }
 {
@@ -82,7 +82,7 @@ fn concerns(path: &[u8]) -> Option<&[u8]>
     }
 }
 
-fn add(found: &mut Directories, alloc: Global, directory: &[u8]) -> Result<(), AllocError>
+fn add_directory(found: &mut Directories, alloc: Global, directory: &[u8]) -> Result<(), AllocError>
     ensures { OnOk result ((other : List ℕ) → Has found.new other ↔ (Has found.old other ⊎ (directory.now ≡ other))) }
 {
     if !found.contains(directory) {
@@ -100,7 +100,7 @@ fn add_some(
         Has found.new other ↔ (Has found.old other ⊎ (option_copied directory.entry ≡ Some other))) }
 {
     match directory {
-        Some(directory) => add(found, alloc, directory),
+        Some(directory) => add_directory(found, alloc, directory),
         None => Ok(()),
     }
 }
@@ -111,7 +111,7 @@ fn add_roots_above(found: &mut Directories, alloc: Global, path: &[u8]) -> Resul
         Has found.new other ↔ (Has found.old other ⊎ ((IsTopRoot other ⊎ IsConcerns other) × IsAbove other path.now))) }
 {
     add_some(found, alloc, top_root(path))?;
-    add_some(found, alloc, concerns(path))?;
+    add_some(found, alloc, concerns_above(path))?;
     Ok(())
 }
 

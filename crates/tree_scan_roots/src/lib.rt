@@ -10,5 +10,5 @@ mod numbers;
 mod roots;
 mod table;
 
-pub use roots::{Root, Roots, RootsFault};
+pub use roots::{Root, Roots, RootsFault, path_shown};
 pub use table::RootTable;

@@ -52,7 +52,11 @@ fn number_up_to(numbers: &PathNumbers, path: &[u8], end: usize) -> Option<u32>
 }
 
 /// The roots, without the clause that follows from the others.
-fn collect(alloc: Global, files: &[FileEntry], lines: &[RootLine]) -> Result<RootTable, RootsFault>
+fn collect_roots(
+    alloc: Global,
+    files: &[FileEntry],
+    lines: &[RootLine],
+) -> Result<RootTable, RootsFault>
     ensures roots { IfOk result (AreRoots (paths_of files.now) lines.now) }
     ensures once { OnOk result (NamesOnce lines.now) }
     ensures fault { IfErr result (IsFault lines.now) }
@@ -78,7 +82,7 @@ impl RootTable {
         ensures fault { IfErr result (IsFault lines.now) }
         ensures only { (path : List ℕ) → IsTwoRoots lines.now path → IsErrAnd result (IsFaultAt path) }
     {
-        collect(alloc, files, lines)
+        collect_roots(alloc, files, lines)
     }
 
     pub fn roots(&self) -> &[Root]

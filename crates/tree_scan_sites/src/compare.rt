@@ -6,7 +6,7 @@ use lists::Text;
 use std::cmp::Ordering;
 
 /// The order of constant paths: the first name that differs decides, by its bytes, else the shorter path comes first.
-pub(crate) fn compare(path: &[Text], other: &[Text]) -> Ordering
+pub(crate) fn compare_paths(path: &[Text], other: &[Text]) -> Ordering
     ensures { result ≡ path_order path.now other.now }
 {
     let mut left = path;
@@ -38,7 +38,7 @@ fn is_same(name: &Text, other: &Text) -> bool
 }
 
 /// The number of names that two paths share from the front on.
-pub(crate) fn shared(path: &[Text], other: &[Text]) -> usize
+pub(crate) fn shared_names(path: &[Text], other: &[Text]) -> usize
     ensures { result ≡ spec.shared path.now other.now }
 {
     let mut left = path;

@@ -1,7 +1,7 @@
 ghost use Rattle.std.specs.Prelude.{◌≡◌, [], ◌++◌, IfOk, OnOk};
 ghost use Rattle.tree_scan_sites.specs.Reached.{longer, paths_from};
 
-use crate::compare::shared;
+use crate::compare::shared_names;
 use crate::spelled::Spelled;
 use lists::Text;
 use ruby_types::CPath;
@@ -31,7 +31,12 @@ pub(crate) fn paths_of(alloc: Global, spelled: &[Spelled]) -> Result<Vec<CPath>,
     let mut previous: &[Text] = &[];
     'spelled: for entry in spelled {
         let constant = entry.constant.as_slice();
-        push_longer(alloc, &mut paths, constant, shared(previous, constant))?;
+        push_longer(
+            alloc,
+            &mut paths,
+            constant,
+            shared_names(previous, constant),
+        )?;
         previous = constant;
     }
     Ok(paths)

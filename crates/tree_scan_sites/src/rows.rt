@@ -5,7 +5,7 @@ ghost use Rattle.tree_scan_sites.specs.Listed.{spelled_order};
 ghost use Rattle.tree_scan_sites.specs.Rows.{children_run, site_of};
 ghost use Rattle.tree_scan_sites.specs.Rows as spec;
 
-use crate::compare::compare;
+use crate::compare::compare_paths;
 use crate::search::file_in;
 use crate::spelled::{Names, Site, SiteRow, Spelled};
 use lists::{Copying, Text};
@@ -93,6 +93,6 @@ pub(crate) fn place_in(rows: &[SiteRow], path: &[Text]) -> Result<usize, usize>
     rows.binary_search_by(
         |row: &SiteRow| -> Ordering
             ensures { result ≡ path_order row.now.path path.entry.now }
-        { compare(row.path.as_slice(), path) },
+        { compare_paths(row.path.as_slice(), path) },
     )
 }

@@ -2,7 +2,7 @@ ghost use Rattle.std.specs.Prelude.{◌≡◌, ◌≤◌, true, false, length, O
 ghost use Rattle.std.specs.List.Sorted.{IsSorted, IsPartitionPoint, IsPermutation};
 ghost use Rattle.tree_scan_sites.specs.Listed.{spelled_order, comes_before, first_file};
 
-use crate::compare::compare;
+use crate::compare::compare_paths;
 use crate::spelled::Spelled;
 use lists::Text;
 use std::alloc::AllocError;
@@ -12,7 +12,7 @@ use std::cmp::Ordering;
 fn compare_spelled(entry: &Spelled, other: &Spelled) -> Ordering
     ensures { result ≡ spelled_order entry.now other.now }
 {
-    match compare(entry.constant.as_slice(), other.constant.as_slice()) {
+    match compare_paths(entry.constant.as_slice(), other.constant.as_slice()) {
         Ordering::Equal => match entry.root.cmp(&other.root) {
             Ordering::Equal => entry.file.cmp(&other.file),
             unequal => unequal,
@@ -43,7 +43,7 @@ fn place_of(spelled: &[Spelled], path: &[Text]) -> usize
     spelled.partition_point(
         |entry: &Spelled| -> bool
             ensures { result ≡ comes_before path.entry.now entry.now }
-        { compare(entry.constant.as_slice(), path).is_lt() },
+        { compare_paths(entry.constant.as_slice(), path).is_lt() },
     )
 }
 
@@ -57,7 +57,7 @@ pub(crate) fn file_in(spelled: &[Spelled], path: &[Text]) -> Option<u32>
         return None;
     }
     let entry = &spelled[place];
-    if compare(entry.constant.as_slice(), path).is_eq() {
+    if compare_paths(entry.constant.as_slice(), path).is_eq() {
         Some(entry.file)
     } else {
         None

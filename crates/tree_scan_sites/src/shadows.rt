@@ -16,7 +16,7 @@ fn is_file(found: Option<u32>, file: u32) -> bool
 }
 
 /// The file of each spelling whose constant has another file.
-fn hidden(alloc: Global, spelled: &[Spelled]) -> Result<Vec<u32>, AllocError>
+fn hidden_among(alloc: Global, spelled: &[Spelled]) -> Result<Vec<u32>, AllocError>
     requires { IsSorted spelled_order spelled.now }
     ensures { IfOk result (λ files. files.items ≡ hidden_files spelled.now spelled.now) }
 {
@@ -36,7 +36,7 @@ pub(crate) fn shadowed_in(alloc: Global, spelled: &[Spelled]) -> Result<Vec<u32>
     ensures exact { IfOk result (λ files. (file : ℕ) →
         Contains files.items file ↔ Contains (hidden_files spelled.now spelled.now) file) }
 {
-    let mut files = hidden(alloc, spelled)?;
+    let mut files = hidden_among(alloc, spelled)?;
     files.sort_unstable();
     files.dedup();
     Ok(files)

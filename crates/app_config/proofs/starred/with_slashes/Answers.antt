@@ -13,7 +13,7 @@ returns c =
     let count = c.partition_point-count in
     let rest = take_rest all start.result in
     IsGroup-parts c.args.wanted all (take (length all - start.result) (drop start.result all)) start.result
-        count.result rest
+    count.result rest
     (start.ensures.partitioned (λ one. ltb one.slashes c.args.wanted)
     (always_returns_same _ _ _ (λ a r g called. (search rules, search rules)))
     (IsPartitionedBy-ltb (λ one. one.slashes) all c.args.wanted c.requires.sorted))

@@ -8,10 +8,10 @@ returns-then-is_empty-clause-none c = words-spaces c.args.text.now _ c.skip_spac
 
 pub returns-in-Some-clause-word : goal.returns-in-Some-clause-word
 returns-in-Some-clause-word c =
-    let parts = rw c.in-Some.is at c.cut.ensures.parts in
+    let parts = rw c.in-Some.is at c.cut_at.ensures.parts in
     words-line c.args.text.now _ _ _ c.skip_spaces-text.ensures (sym c.is_empty.ensures ∙ c.if-is_empty.false) parts
 
 pub returns-in-None-clause-word : goal.returns-in-None-clause-word
 returns-in-None-clause-word c =
-    let parts = rw c.in-None.is at c.cut.ensures.parts in
+    let parts = rw c.in-None.is at c.cut_at.ensures.parts in
     words-line c.args.text.now _ _ _ c.skip_spaces-text.ensures (sym c.is_empty.ensures ∙ c.if-is_empty.false) parts

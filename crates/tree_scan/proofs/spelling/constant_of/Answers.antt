@@ -22,8 +22,8 @@ pub root_at-root-requires : goal.root_at-root-requires
 root_at-root-requires c = let l : IsLongestAbove c.args.roots.now c.as_bytes-path.result.now c.in-Some.number =
     c.in-Some.ensures in slice_get_within c.args.roots.now c.in-Some.number l.root l.at
 
-pub returns-in_ok-joined-in-Names-clause-exact : goal.returns-in_ok-joined-in-Names-clause-exact
-returns-in_ok-joined-in-Names-clause-exact c =
+pub returns-in_ok-joined_path-in-Names-clause-exact : goal.returns-in_ok-joined_path-in-Names-clause-exact
+returns-in_ok-joined_path-in-Names-clause-exact c =
     let l : IsLongestAbove c.args.roots.now c.args.file.now.path c.in-Some.number =
     rw (← c.as_bytes-path.ensures) c.in-Some.ensures in
     let s : IsSpelling c.args.rules.now (above c.args.file.now.path (end_of l))
@@ -33,13 +33,13 @@ returns-in_ok-joined-in-Names-clause-exact c =
     (Names c.in-Names.names) l c.as_bytes-path.ensures c.root_at-root.ensures.at c.len.ensures c.in-Names.is
     c.in_ok-names.ensures.spelled in
     constant_told c.args.roots.now c.args.rules.now c.args.file.now.path c.in-Some.number l c.in-Names.names
-    c.in_ok-joined-in-Names.field-0 c.root_at-root.ensures.distinct s
+    c.in_ok-joined_path-in-Names.field-0 c.root_at-root.ensures.distinct s
     (same_namespace c.args.roots.now c.args.file.now.path c.in-Some.number c.root_at-root.result.now l
-    c.in_ok-joined-in-Names.field-0 c.in-Names.names c.as_slice.result.now c.root_at-root.ensures.at
-    c.in_ok-joined-in-Names.ensures c.as_slice.ensures)
+    c.in_ok-joined_path-in-Names.field-0 c.in-Names.names c.as_slice.result.now c.root_at-root.ensures.at
+    c.in_ok-joined_path-in-Names.ensures c.as_slice.ensures)
 
-pub returns-in_ok-joined-in-Names-clause-named : goal.returns-in_ok-joined-in-Names-clause-named
-returns-in_ok-joined-in-Names-clause-named c =
+pub returns-in_ok-joined_path-in-Names-clause-named : goal.returns-in_ok-joined_path-in-Names-clause-named
+returns-in_ok-joined_path-in-Names-clause-named c =
     let l : IsLongestAbove c.args.roots.now c.args.file.now.path c.in-Some.number =
     rw (← c.as_bytes-path.ensures) c.in-Some.ensures in
     no_bad_name c.args.roots.now c.args.rules.now c.args.file.now.path c.in-Some.number l c.in-Names.names

@@ -11,8 +11,8 @@ returns-in-Some-clause-only c = overridden_only c.args.config.now c.args.base.no
 
 pub returns-in-None-clause-camelized : goal.returns-in-None-clause-camelized
 returns-in-None-clause-camelized c =
-    plain_made c.args.config.now c.args.base.now c.camelized.result c.in-None.ensures c.camelized.ensures
+    plain_made c.args.config.now c.args.base.now c.camelized_base.result c.in-None.ensures c.camelized_base.ensures
 
 pub returns-in-None-clause-only : goal.returns-in-None-clause-only
-returns-in-None-clause-only c = plain_only c.args.config.now c.args.base.now c.camelized.result c.in-None.ensures
-    c.camelized.ensures
+returns-in-None-clause-only c = plain_only c.args.config.now c.args.base.now c.camelized_base.result c.in-None.ensures
+    c.camelized_base.ensures

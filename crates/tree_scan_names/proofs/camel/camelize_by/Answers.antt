@@ -7,4 +7,4 @@ returns-in-Some c = overridden_copy c.args.rules.now c.args.base.now c.in-Some.c
 
 pub returns-in-None : goal.returns-in-None
 returns-in-None c =
-    plain_made c.args.rules.now c.args.base.now c.camelized.result c.in-None.ensures c.camelized.ensures
+    plain_made c.args.rules.now c.args.base.now c.camelized_base.result c.in-None.ensures c.camelized_base.ensures

@@ -13,7 +13,7 @@ pub returns-then-is_eq : goal.returns-then-is_eq
 returns-then-is_eq c =
     let entry = c.index-spelled-place.result in
     let same : is_eq (path_order entry.constant c.args.path.now) ≡ c.is_eq.result =
-    sym (c.is_eq.ensures ∙ (ap is_eq c.compare.ensures
+    sym (c.is_eq.ensures ∙ (ap is_eq c.compare_paths.ensures
     ∙ ap (λ p. is_eq (path_order p c.args.path.now)) c.as_slice.ensures)) in
     let within : c.place_of-place.result < length c.args.spelled.now = omega (arith, c.place_of-place.ensures.bound) in
     sym (first_found c.args.path.now c.args.spelled.now c.place_of-place.result entry within c.index-spelled-place.is
@@ -23,7 +23,7 @@ pub returns-else-is_eq : goal.returns-else-is_eq
 returns-else-is_eq c =
     let entry = c.index-spelled-place.result in
     let same : is_eq (path_order entry.constant c.args.path.now) ≡ c.is_eq.result =
-    sym (c.is_eq.ensures ∙ (ap is_eq c.compare.ensures
+    sym (c.is_eq.ensures ∙ (ap is_eq c.compare_paths.ensures
     ∙ ap (λ p. is_eq (path_order p c.args.path.now)) c.as_slice.ensures)) in
     let within : c.place_of-place.result < length c.args.spelled.now = omega (arith, c.place_of-place.ensures.bound) in
     sym (first_other c.args.path.now c.args.spelled.now c.place_of-place.result entry within c.index-spelled-place.is

@@ -1,7 +1,7 @@
 use Rattle.std.proofs.Common.{◌==◌, ◌+◌, ◌∷◌, ◌++◌, ap, sym, ◌∙◌, drop, take, arith}
 use Rattle.std.proofs.lemmas.List.{take_rest, drop_all}
 use Rattle.app_config.proofs.WordLaws.{split-cut, split-none, position-found, position-none}
-use Rattle.app_config.proofs.text.cut.Goals as goal
+use Rattle.app_config.proofs.text.cut_at.Goals as goal
 
 pub returns-in-None-clause-parts : goal.returns-in-None-clause-parts
 returns-in-None-clause-parts c =

@@ -1,6 +1,6 @@
 use Rattle.std.proofs.Common.{◌≡◌, true, false, sym, ◌∙◌}
 use Rattle.tree_scan_roots.proofs.DirectoryLaws.{concerns_is, concerns_isnt}
-use Rattle.tree_scan_roots.proofs.directories.concerns.Goals as goal
+use Rattle.tree_scan_roots.proofs.directories.concerns_above.Goals as goal
 
 pub returns-then-begins_in_concerns : goal.returns-then-begins_in_concerns
 returns-then-begins_in_concerns c =

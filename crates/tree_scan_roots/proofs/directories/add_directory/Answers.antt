@@ -1,7 +1,7 @@
 use Rattle.std.proofs.Common.{ℕ, List, ◌≡◌, ◌⊎◌, ◌↔◌, subst}
 use Rattle.tree_scan_roots.specs.Keys.{Has}
 use Rattle.tree_scan_roots.proofs.KeyLaws.{set_more}
-use Rattle.tree_scan_roots.proofs.directories.add.Goals as goal
+use Rattle.tree_scan_roots.proofs.directories.add_directory.Goals as goal
 
 pub returns-in_ok-insert : goal.returns-in_ok-insert
 returns-in_ok-insert c =

@@ -3,7 +3,7 @@ use Rattle.tree_scan_roots.specs.Keys.{key_paths}
 use Rattle.tree_scan_roots.specs.Roots.{named}
 use Rattle.tree_scan_roots.proofs.KeyLaws.{distinct}
 use Rattle.tree_scan_roots.proofs.RootLaws.{are_roots, joined_is}
-use Rattle.tree_scan_roots.proofs.table.collect.Goals as goal
+use Rattle.tree_scan_roots.proofs.table.collect_roots.Goals as goal
 
 pub add_line_roots-requires-clause-once : goal.add_line_roots-requires-clause-once
 add_line_roots-requires-clause-once c =

@@ -1,6 +1,6 @@
 use Rattle.std.proofs.Common.{◌≡◌, ◌+◌, length}
 use Rattle.tree_scan_sites.specs.Paths.{shared}
-use Rattle.tree_scan_sites.proofs.compare.shared.Given as goal
+use Rattle.tree_scan_sites.proofs.compare.shared_names.Given as goal
 
 abbrev pub invariant-names : goal.invariant-names
 invariant-names l = record {

@@ -1,7 +1,7 @@
 use Rattle.std.proofs.Common.{rules}
 use Rattle.std.proofs.lemmas.List.Sorted.{answers_always}
 use Rattle.tree_report.proofs.ListingLaws.{comes_before, comes_before-is-order, sorted_is_ordered}
-use Rattle.tree_report.proofs.listing.sort.Goals as goal
+use Rattle.tree_report.proofs.listing.sort_sites.Goals as goal
 
 pub returns : goal.returns
 returns c = record {
