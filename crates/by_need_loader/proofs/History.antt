@@ -1,15 +1,11 @@
 -- What was defined so far, in its order.
 use Rattle.std.proofs.Common.{◌≡◌, List, [], ◌∷◌, ◌++◌, Option, Some, None, Bool, true, false, sym, subst, append_assoc}
-use Rattle.std.proofs.Common.{append-nil, reverse}
-use Rattle.std.proofs.lemmas.List.{reverse-append}
+use Rattle.std.proofs.Common.{append-nil}
 use Rattle.by_need.specs.Asking.{Done, Raised, Asks, Otherwise}
 use Rattle.by_need.specs.Rounds.{Rules, is_in}
 use Rattle.by_need.specs.Load.{Defines}
 use Rattle.by_need.specs.Order.{Loads, Load}
 use Rattle.by_need_loader.specs.Steps.{SoFar}
-
-pub reverse_push : {T : Type 0} (ts : List T) (t : T) → reverse (ts ++ t ∷ []) ≡ t ∷ reverse ts
-reverse_push ts t = reverse-append ts (t ∷ [])
 
 module _ {T V E O : Type 0} (r : Rules T V E O) (J : T → Option V) (wanted : T) where
   further : (os : List T) (t : T) (K L : T → Option V) (made ds : List (T × V)) →

@@ -16,10 +16,10 @@ use Rattle.by_need.proofs.Tables.{done_known, in_append_left, in_append_right}
 use Rattle.by_need.proofs.Loads.{open_task, open_needed, ends_raised, ends_otherwise, ends_ring, chain_tasks}
 use Rattle.by_need.proofs.Loads.{not_in_append}
 use Rattle.by_need_loader.proofs.Opens.{asks_one_more, loading, pushed, popped, supplied, defined, never_alone}
-use Rattle.by_need_loader.proofs.History.{reverse_push, enters, starts, fails_raised, fails_otherwise, fails_open, ends}
+use Rattle.by_need_loader.proofs.History.{enters, starts, fails_raised, fails_otherwise, fails_open, ends}
 use Rattle.by_need_loader.proofs.History.{goes_back, there}
 use Rattle.by_need_loader.proofs.Progress.{waits_some, waits_push, few_asks, waits_few, less_defined, less_entered}
-use Rattle.by_need_loader.proofs.Rings.{get_at}
+use Rattle.std.proofs.lemmas.Option.{slice_get-get_or}
 use Rattle.by_need_loader.specs.Ring.{IsTurned}
 use Rattle.by_need_loader.specs.Steps.{Behind, Opened, SoFar, Before, Running, IsAt, Tells, todo, asks_left, waits_left}
 use Rattle.by_need_loader.specs.Steps.{wide}
@@ -139,7 +139,7 @@ module _ {T V E O R W : Type 0} (r : Rules T V E O) (branch : W → V → Comput
                 Before r J wanted (reverse ts) L (made ++ (t, v) ∷ [])
             before L d (inl e') = absurd (some e')
             before L d (inr i) =
-                let q : reverse ts ≡ i.1 ∷ reverse i.0 = ap reverse i.2 ∙ reverse_push i.0 i.1 in
+                let q : reverse ts ≡ i.1 ∷ reverse i.0 = ap reverse i.2 ∙ reverse-append i.0 (i.1 ∷ []) in
                 subst (λ os. Before r J wanted os L (made ++ (t, v) ∷ [])) (sym q) (
                   g.begun,
                   goes_back r J wanted (reverse i.0) i.1 t K L made v
@@ -159,7 +159,7 @@ module _ {T V E O R W : Type 0} (r : Rules T V E O) (branch : W → V → Comput
           × (todo r branch rest K more pile (Looks u) < todo r branch rest K ts ws (Runs t m))
       asks_on u w more pile e f h = (
         pushed r branch laws wanted K ts more ws pile t u w g.opened g.lacks g.out (subst (Behind r K t) e g.now) f h,
-        subst (λ os. Before r J wanted os K made) (sym (ap reverse f ∙ reverse_push ts t)) (g.begun, g.so_far),
+        subst (λ os. Before r J wanted os K made) (sym (ap reverse f ∙ reverse-append ts (t ∷ []))) (g.begun, g.so_far),
         let a : waits_left r branch pile u ≡ asks_left r (rest m) = ap (λ ys. waits_left r branch ys u) h
             ∙ waits_push r branch ws u w ∙ ap (asks_left r) (sym e) in
             let b : left r K more * wide r ≡ left r K (ts ++ t ∷ []) * wide r = ap (λ xs. left r K xs * wide r) f in
@@ -173,8 +173,7 @@ module _ {T V E O R W : Type 0} (r : Rules T V E O) (branch : W → V → Comput
         enters_now : Behind r K u (rest m)
         enters_now = record {
           same = λ L p. ap (λ x. x.answer) (begun L);
-          fewer =
-              le_of_eq (ap (λ x. length x.asked) (sym (begun (known r))));
+          fewer = le_of_eq (ap (λ x. length x.asked) (sym (begun (known r))));
         }
 
         history : (ts ≡ []) ⊎ ((front : List T) × (s : T) × (ts ≡ front ++ s ∷ [])) → (J wanted ≡ None)
@@ -193,7 +192,7 @@ module _ {T V E O R W : Type 0} (r : Rules T V E O) (branch : W → V → Comput
                 × SoFar r J wanted (reverse ts) u K made
             last (inl e) = absurd (never_alone r branch laws wanted K ts i.0 ws i.1 u o i.2 e)
             last (inr j) =
-                let q : reverse ts ≡ i.1 ∷ reverse i.0 = ap reverse i.2 ∙ reverse_push i.0 i.1 in
+                let q : reverse ts ≡ i.1 ∷ reverse i.0 = ap reverse i.2 ∙ reverse-append i.0 (i.1 ∷ []) in
                 let p = subst (λ os. Before r J wanted os K made) q b in
                 let l = popped r branch laws wanted K ts i.0 ws j.0 i.1 u j.1 o i.2 j.2 in
                 let a : (r.run i.1 K).answer ≡ Asks u = l.waits.same K (Part-refl K) ∙ rw n refl in (
@@ -234,8 +233,8 @@ module _ {T V E O R W : Type 0} (r : Rules T V E O) (branch : W → V → Comput
               let a : (r.run i.1 K).answer ≡ Asks u = l.waits.same K (Part-refl K) ∙ rw n refl in
               let d = ends_ring r laws wanted o.is K i.0 i.1 u c.0 c.2 q.place
               (loading r branch laws wanted K i.0 j.0 i.1 l.opened l.lacks l.out) a (sym i.2 ∙ split) q.within
-              (λ k w. q.least _ _ k (get_at (u ∷ c.2) q.place u q.within) (get_at (u ∷ c.2) k u w)) in
-              let e : reverse ts ≡ i.1 ∷ reverse i.0 = ap reverse i.2 ∙ reverse_push i.0 i.1 in
+              (λ k w. q.least _ _ k (slice_get-get_or (u ∷ c.2) q.place u q.within) (slice_get-get_or (u ∷ c.2) k u w)) in
+              let e : reverse ts ≡ i.1 ∷ reverse i.0 = ap reverse i.2 ∙ reverse-append i.0 (i.1 ∷ []) in
               let p = subst (λ os. Before r J wanted os K made) e b in
               let here : is_in r u ts ≡ true = subst (λ xs. is_in r u xs ≡ true) (sym split)
               (in_append_right r laws u c.0 (u ∷ c.2) (or_left (r.same u u) _ (laws.same_self u))) in (
@@ -262,7 +261,7 @@ module _ {T V E O R W : Type 0} (r : Rules T V E O) (branch : W → V → Comput
           × (todo r branch rest K front pile (Runs s m) < todo r branch rest K ts ws (Looks u))
       resumes_some front pile s w m e f g =
           let l = popped r branch laws wanted K ts front ws pile s u w o e f in
-          let p = subst (λ os. Before r J wanted os K made) (ap reverse e ∙ reverse_push front s) b in
+          let p = subst (λ os. Before r J wanted os K made) (ap reverse e ∙ reverse-append front (s ∷ [])) b in
           let one = asks_one_more r branch u v (branch w) (o.part.keeps u v h) in
           let a : waits_left r branch ws u ≡ asks_left r (Ask u (branch w)) = ap (λ ys. waits_left r branch ys u) f
           ∙ waits_push r branch pile u w in

@@ -26,17 +26,9 @@ module _ {T V E O : Type 0} (r : Rules T V E O) (laws : Lawful r) (task : T) (J 
   pub defined_gains : Gains r task J K → Gains r task J L
   defined_gains g = record {
     keeps = Part-trans g.keeps (defines_grows r laws K L u v none defines);
-    needed =
-        λ x w h. at x w h (r.same x u) refl;
+    needed = λ x w h. at x w h (r.same x u) refl;
   }
     where
       at : (x : T) (w : V) → L x ≡ Some w → (b : Bool) → r.same x u ≡ b → (J x ≡ Some w) ⊎ Needs r task x
       at x w h true e = inr (subst (Needs r task) (sym (laws.same_is x u e)) needs)
       at x w h false e = g.needed x w (sym (defines.old x e) ∙ h)
-
-pub part_along : {T V : Type 0} (J K M : T → Option V) → K ≡ J → Part J M → Part K M
-part_along J K M e p = subst (λ X. Part X M) (sym e) p
-
-pub gains_along : {T V E O : Type 0} (r : Rules T V E O) (task : T) (J K L : T → Option V) → L ≡ K →
-    Gains r task J K → Gains r task J L
-gains_along r task J K L e g = subst (Gains r task J) (sym e) g

@@ -1,6 +1,6 @@
 use Rattle.std.proofs.Common.{sym, ap, ◌∙◌, refl}
 use Rattle.by_need.specs.Asking.{over}
-use Rattle.by_need_loader.proofs.Lists.{if_ok}
+use Rattle.std.proofs.lemmas.Result.{IfOk-weaker}
 use Rattle.by_need_loader.proofs.Goes.{enters, stands, says_ring}
 use Rattle.by_need_loader.proofs.loader.Loader.enter.Goals as goal
 
@@ -11,7 +11,7 @@ returns-in_ok-running-in-Ok-default-true g c =
     let laws = g.Y.Theory.laws c.args.theory.now in
     let new = c.in-Ok-default-true.ensures in
     rw (← c.self.view_is)
-    (if_ok c.go_on.result (λ told f h bound w none le.
+    (IfOk-weaker c.go_on.result _ _ (λ told f h bound w none le.
     let e = enters r m laws h _ c.args.task w none g.Y.Key.PartialEq.eq (g.met.Y.Program.tells_apart c.args.theory.now) c.in_ok-key.key
     c.in_ok-key.ensures _ c.in_ok-running-in-Ok-default-true.running bound
     (sym c.in-Ok-default-true.field-0-1-test ∙ new.added) new.keys

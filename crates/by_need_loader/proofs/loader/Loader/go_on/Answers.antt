@@ -1,6 +1,7 @@
 use Rattle.std.proofs.Common.{lt_of_lt_of_le, ◌∙◌}
+use Rattle.std.proofs.lemmas.Result.{IfOk-weaker}
 use Rattle.by_need_loader.specs.Progress.{Progress}
-use Rattle.by_need_loader.proofs.Lists.{empty_when, full_when, if_ok}
+use Rattle.by_need_loader.proofs.Lists.{empty_when, full_when}
 use Rattle.by_need_loader.proofs.Goes.{says_raised, says_otherwise, keys_left, says_last, says_next, asked}
 use Rattle.by_need_loader.proofs.loader.Loader.go_on.Goals as goal
 
@@ -69,7 +70,7 @@ returns-in_ok-push-in-Asks-2 g c =
       phase = i.phase;
     } in
     rw (← c.self-in-Asks.view_is)
-    (if_ok c.look.result (λ told f h bound keyed runs le.
+    (IfOk-weaker c.look.result _ _ (λ told f h bound keyed runs le.
     let a = asked r m laws h p c.args.task c.args.running keyed runs c.in-Asks.asked c.in-Asks.waiting _ _ i.phase
     (rw c.in-Asks.is at c.in_ok-value.ensures) c.in_ok-push-in-Asks.ensures.items
     c.in_ok-push-in-Asks-2.ensures.items in
