@@ -1,5 +1,5 @@
-//! Graphs of tasks: numbers that ask for numbers. What is known of them by rounds over all, as a plain program, and what
-//! a loader needs of them.
+//! Graphs of tasks: numbers that ask for numbers. What is known of them by rounds over all, as a plain program, and
+//! what a loader needs of them.
 #![tactic(auto)]
 
 pub mod beside;

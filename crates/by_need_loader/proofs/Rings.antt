@@ -1,5 +1,6 @@
 -- The least name of a ring.
-use Rattle.std.proofs.Common.{◌≡◌, ◌<◌, ◌≤◌, ◌+◌, ◌∷◌, [], ℕ, suc, zero, List, length, slice_get, get_or, Option, Some, drop, take}
+use Rattle.std.proofs.Common.{◌≡◌, ◌<◌, ◌≤◌, ◌+◌, ◌∷◌, [], ℕ, suc, zero, List, length, slice_get, get_or, Option, Some}
+use Rattle.std.proofs.Common.{drop, take}
 use Rattle.std.proofs.Common.{Bool, true, false, inl, inr, sym, ap, ◌∙◌, subst, arith}
 use Rattle.std.proofs.Common.{◌-◌, ◌++◌, length-drop}
 use Rattle.std.proofs.Math.Seq.{take-append_seam}
@@ -45,6 +46,7 @@ module _ {T V E O : Type 0} (r : Rules T V E O) (laws : Lawful r) where
   same_some : (a b : T) (o : Option T) → o ≡ Some a → o ≡ Some b → a ≡ b
   same_some a b o p q = cc
 
+  -- the first of one task is the least
   pub starts_least : (ts : List T) → LeastBelow r.at_most ts 0 1
   starts_least ts m z zero lt p q = subst (λ x. r.at_most m x ≡ true) (same_some m z _ p q) (at_most_self r laws m)
   starts_least ts m z (suc k) lt p q = absurd (omega (arith, lt))
@@ -57,6 +59,7 @@ module _ {T V E O : Type 0} (r : Rules T V E O) (laws : Lawful r) where
     at_i : slice_get ts i ≡ Some b
     at_i = slice_get-get_or ts i b li ∙ ap Some (sym eb)
 
+    -- the least so far stays, where it is at most the next
     pub keeps_least : x ≡ true → LeastBelow r.at_most ts best (i + 1)
     keeps_least e m z k lt p q =
         elim (cases_lt k i) [
@@ -68,6 +71,7 @@ module _ {T V E O : Type 0} (r : Rules T V E O) (laws : Lawful r) where
               subst (λ y. r.at_most m y ≡ true) ez (subst (λ y. r.at_most y b ≡ true) em (sym is ∙ e))
         ]
 
+    -- else the next is the least
     pub takes_least : x ≡ false → LeastBelow r.at_most ts i (i + 1)
     takes_least e m z k lt p q =
         let em = same_some b m _ at_i p in
@@ -80,6 +84,8 @@ module _ {T V E O : Type 0} (r : Rules T V E O) (laws : Lawful r) where
               (at_most_self r laws m)
         ]
 
+-- the least of all
 pub ends_least : {T : Type 0} (at_most : T → T → Bool) (ts : List T) (best i : ℕ) → length ts ≤ i →
     LeastBelow at_most ts best i → HasLeast at_most ts best
-ends_least at_most ts best i le h = λ m z k p q. let lt = slice_get_within ts k z q in h m z k (omega (arith, lt, le)) p q
+ends_least at_most ts best i le h = λ m z k p q. let lt = slice_get_within ts k z q in
+    h m z k (omega (arith, lt, le)) p q

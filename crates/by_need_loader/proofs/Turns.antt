@@ -7,12 +7,14 @@ use Rattle.by_need.specs.Load.{Defines, Gains}
 use Rattle.by_need.proofs.Rounds.{Part-refl, Part-trans}
 use Rattle.by_need.proofs.Loads.{defines_part, defines_grows}
 
+-- a table gains nothing by itself
 pub gains_none : {T V E O : Type 0} (r : Rules T V E O) (task : T) (K : T → Option V) → Gains r task K K
 gains_none r task K = record { keeps = Part-refl K; needed = λ u v h. inl h }
 
 module _ {T V E O : Type 0} (r : Rules T V E O) (laws : Lawful r) (task : T) (J K L : T → Option V) (u : T) (v : V)
     (none : K u ≡ None) (kn : known r u ≡ Some v) (needs : Needs r task u) (new : L u ≡ Some v) (old : (x : T) →
     (x ≡ u → ⊥) → L x ≡ K x) where
+  -- the table has one value more
   pub defines : Defines r K u v L
   defines = record {
     new = new;
@@ -20,9 +22,11 @@ module _ {T V E O : Type 0} (r : Rules T V E O) (laws : Lawful r) (task : T) (J 
         old x (λ e. false≢true (sym h ∙ subst (λ y. r.same x y ≡ true) e (laws.same_self x)));
   }
 
+  -- it is still part of what is known
   pub defined_part : Part K (known r) → Part L (known r)
   defined_part p = defines_part r laws K L u v p kn defines
 
+  -- and has gained only what is needed
   pub defined_gains : Gains r task J K → Gains r task J L
   defined_gains g = record {
     keeps = Part-trans g.keeps (defines_grows r laws K L u v none defines);

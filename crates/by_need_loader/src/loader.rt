@@ -1,8 +1,8 @@
 //! A load of a task, step by step. Its caller has the table.
-ghost use Rattle.std.specs.Prelude.{◌≡◌, ◌≤◌, ◌<◌, ℕ, IfOk, Some, None, map, ◌∷◌, ◌++◌, [], option_copied};
-ghost use Rattle.by_need_loader.specs.Steps.{IsReady, Running};
-ghost use Rattle.by_need_loader.specs.Progress.{History, IsOn, Finds, WentOn, Says, WaitsFor, begun, left_in};
-ghost use Rattle.by_need_loader.specs.Progress.{Resumed, left_to_do};
+ghost use Rattle.std.specs.Prelude.{◌≡◌, ◌≤◌, ◌<◌, ℕ, IfOk, Some, None, option_copied};
+ghost use Rattle.by_need_loader.specs.Steps.{IsReady};
+ghost use Rattle.by_need_loader.specs.Progress.{History, IsOn, Finds, WentOn, Says, WaitsFor, HasRunning, Resumed};
+ghost use Rattle.by_need_loader.specs.Progress.{begun, left_in, left_to_do};
 
 use crate::program::{Next, Program};
 use crate::ring::ring_from;
@@ -48,6 +48,7 @@ pub enum Phase<T, R> {
     Over,
 }
 
+/// Puts another phase in the place of one.
 fn set<T: Drop, R: Drop>(phase: &mut Phase<T, R>, next: Phase<T, R>)
     ensures { phase.new ≡ next }
 {
@@ -70,10 +71,10 @@ impl<Y: Program> Model for Loader<Y> {
     ghost Value = { Progress Y.Task Y.Running Y.Waiting Y.Key };
 
     ghost view = { λ l. record {
-        tasks = l.tasks.items;
-        waiting = l.waiting.items;
-        keys = l.keys.keys;
-        phase = l.phase;
+      tasks = l.tasks.items;
+      waiting = l.waiting.items;
+      keys = l.keys.keys;
+      phase = l.phase;
     } };
 }
 
@@ -93,8 +94,8 @@ impl<Y: Program> Loader<Y> {
     /// The table's answer to the last step, which was a look.
     pub fn answer(&mut self, found: Option<&Y::Value>) -> Result<(), AllocError>
         ensures { IfOk result (λ _. (s : Y) (h : History Y.Task Y.Value) →
-            Finds (Y.rules s) (Y.runs s) h self.old (option_copied found.entry) → IsOn (Y.rules s) (Y.runs s) h self.old →
-            WentOn (Y.rules s) (Y.runs s) h self.old self.new) }
+            Finds (Y.rules s) (Y.runs s) h self.old (option_copied found.entry) →
+            IsOn (Y.rules s) (Y.runs s) h self.old → WentOn (Y.rules s) (Y.runs s) h self.old self.new) }
     {
         match mem::replace(&mut self.phase, Phase::Over) {
             Phase::Looks(task) => match found {
@@ -196,9 +197,7 @@ impl<Y: Program> Loader<Y> {
         running: Y::Running,
     ) -> Result<LoadStep<Y::Task, Y::Value, Y::Error, Y::Other>, AllocError>
         ensures { let r = Y.rules theory.now in let m = Y.runs theory.now in
-            IfOk result (λ told. (h : History Y.Task Y.Value) (bound : ℕ) →
-            self.old.keys ≡ map m.key (self.old.tasks ++ task ∷ []) →
-            Running r m.branch m.rest h.wanted h.at_first h.made h.table self.old.tasks self.old.waiting task running →
+            IfOk result (λ told. (h : History Y.Task Y.Value) (bound : ℕ) → HasRunning r m h self.old task running →
             left_in r m h self.old (Phase.Runs task running) ≤ bound → Says r m h bound self.new told) }
     {
         match theory.run(running)? {

@@ -52,10 +52,7 @@ pub trait Program: Theory {
         ensures { IfOk result (Reaches (runs self.now).branch ((runs self.now).rest running)) };
 
     /// Takes the branch of the value that the run waits for, whichever program the run is of.
-    fn supply(
-        waiting: Self::Waiting,
-        value: &Self::Value,
-    ) -> Result<Self::Running, AllocError>
+    fn supply(waiting: Self::Waiting, value: &Self::Value) -> Result<Self::Running, AllocError>
         ensures { IfOk result (λ running. (s : Self) → (runs s).rest running ≡ (runs s).branch waiting value.now) };
 
     /// A run over what is known follows the tree of its task.

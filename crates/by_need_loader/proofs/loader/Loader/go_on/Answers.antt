@@ -7,14 +7,14 @@ use Rattle.by_need_loader.proofs.loader.Loader.go_on.Goals as goal
 
 pub returns-in-Raised : goal.returns-in-Raised
 returns-in-Raised g c =
-    λ h bound keyed runs le. says_raised (g.Y.Theory.rules c.args.theory.now) (g.Y.Program.runs c.args.theory.now)
-    (g.Y.Theory.laws c.args.theory.now) h c.args.self.now c.args.task c.args.running keyed runs _ bound
+    λ h bound now le. says_raised (g.Y.Theory.rules c.args.theory.now) (g.Y.Program.runs c.args.theory.now)
+    (g.Y.Theory.laws c.args.theory.now) h c.args.self.now c.args.task c.args.running now.keyed now.running _ bound
     c.in-Raised.error (rw c.in-Raised.is at c.in_ok-value.ensures)
 
 pub returns-in-Otherwise : goal.returns-in-Otherwise
 returns-in-Otherwise g c =
-    λ h bound keyed runs le. says_otherwise (g.Y.Theory.rules c.args.theory.now) (g.Y.Program.runs c.args.theory.now)
-    (g.Y.Theory.laws c.args.theory.now) h c.args.self.now c.args.task c.args.running keyed runs _ bound
+    λ h bound now le. says_otherwise (g.Y.Theory.rules c.args.theory.now) (g.Y.Program.runs c.args.theory.now)
+    (g.Y.Theory.laws c.args.theory.now) h c.args.self.now c.args.task c.args.running now.keyed now.running _ bound
     c.in-Otherwise.end (rw c.in-Otherwise.is at c.in_ok-value.ensures)
 
 pub returns-then-is_empty : goal.returns-then-is_empty
@@ -30,10 +30,10 @@ returns-then-is_empty g c =
       phase = i.phase;
     } in
     rw (c.set.ensures, ← c.self.view_is)
-    (λ h bound keyed runs le.
-    let left = keys_left r m laws h p c.args.task c.args.running keyed runs _ c.len.result
+    (λ h bound now le.
+    let left = keys_left r m laws h p c.args.task c.args.running now.keyed now.running _ c.len.result
     (c.len.ensures ∙ c.self.inside.tasks.ok.0) c.truncate.ensures.keys in
-    says_last r m laws h p c.args.task c.args.running keyed runs c.in-Done.value bound
+    says_last r m laws h p c.args.task c.args.running now.keyed now.running c.in-Done.value bound
     (rw c.in-Done.is at c.in_ok-value.ensures) le _ left
     (empty_when _ _ _ c.self.inside.tasks.ok.0 c.is_empty.ensures c.if-is_empty.true))
 
@@ -50,10 +50,10 @@ returns-in_ok-asked-in-Done g c =
       phase = i.phase;
     } in
     rw (c.set-in-Done.ensures, ← c.self.view_is)
-    (λ h bound keyed runs le.
-    let left = keys_left r m laws h p c.args.task c.args.running keyed runs _ c.len.result
+    (λ h bound now le.
+    let left = keys_left r m laws h p c.args.task c.args.running now.keyed now.running _ c.len.result
     (c.len.ensures ∙ c.self.inside.tasks.ok.0) c.truncate.ensures.keys in
-    says_next r m laws h p c.args.task c.args.running keyed runs c.in-Done.value bound
+    says_next r m laws h p c.args.task c.args.running now.keyed now.running c.in-Done.value bound
     (rw c.in-Done.is at c.in_ok-value.ensures) le _ left c.in_ok-asked-in-Done.asked c.in_ok-asked-in-Done.ensures
     (full_when _ _ _ c.self.inside.tasks.ok.0 c.is_empty.ensures c.if-is_empty.false))
 
@@ -70,8 +70,9 @@ returns-in_ok-push-in-Asks-2 g c =
       phase = i.phase;
     } in
     rw (← c.self-in-Asks.view_is)
-    (IfOk-weaker c.look.result _ _ (λ told f h bound keyed runs le.
-    let a = asked r m laws h p c.args.task c.args.running keyed runs c.in-Asks.asked c.in-Asks.waiting _ _ i.phase
+    (IfOk-weaker c.look.result _ _ (λ told f h bound now le.
+    let a = asked r m laws h p c.args.task c.args.running now.keyed now.running c.in-Asks.asked c.in-Asks.waiting _ _
+    i.phase
     (rw c.in-Asks.is at c.in_ok-value.ensures) c.in_ok-push-in-Asks.ensures.items
     c.in_ok-push-in-Asks-2.ensures.items in
     f c.args.theory.now h bound a.0 (lt_of_lt_of_le a.1 le)) c.look.ensures)

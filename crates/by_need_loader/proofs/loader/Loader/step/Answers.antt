@@ -32,4 +32,4 @@ returns-in-Runs g c =
     (IfOk-weaker c.go_on.result _ _ (λ told f h ready on.
     let a = step_runs r m laws h _ on c.in-Runs.task c.in-Runs.running
     (sym c.replace.ensures.value ∙ c.in-Runs.is) in
-    f h _ a.0 a.1 a.2) c.go_on.ensures)
+    f h _ (record { keyed = a.0; running = a.1 }) a.2) c.go_on.ensures)
