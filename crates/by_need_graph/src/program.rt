@@ -50,21 +50,21 @@ impl Program for Graph {
     type Key = u32;
 
     ghost runs = { λ g. record {
-        whole = meaning g.bodies.items;
-        rest = λ run. from (slice_get g.bodies.items run.task) run.sum run.place;
-        branch = λ run v. from (slice_get g.bodies.items run.task) ((run.sum + v) % 2 ^ 64) run.place;
-        key = λ t. t;
+      whole = meaning g.bodies.items;
+      rest = λ run. from (slice_get g.bodies.items run.task) run.sum run.place;
+      branch = λ run v. from (slice_get g.bodies.items run.task) ((run.sum + v) % 2 ^ 64) run.place;
+      key = λ t. t;
     } };
 
     fn at_most(&self, a: &u32, b: &u32) -> bool {
         *a <= *b
     }
 
-    fn copy(task: &u32) -> Result<u32, AllocError> {
+    fn copy_task(task: &u32) -> Result<u32, AllocError> {
         Ok(*task)
     }
 
-    fn key(&self, task: &u32) -> Result<u32, AllocError> {
+    fn key_of(&self, task: &u32) -> Result<u32, AllocError> {
         Ok(*task)
     }
 

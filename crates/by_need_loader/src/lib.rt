@@ -42,8 +42,8 @@
 //! | `begin` | a run of which the task's whole tree is left |
 //! | `run` | the end, or the next question and a waiting run that has its branches |
 //! | `supply` | a run of which the branch of the value is left |
-//! | `copy` | the same task |
-//! | `key` | what tells the tasks of the program apart |
+//! | `copy_task` | the same task |
+//! | `key_of` | what tells the tasks of the program apart |
 //! | `at_most` | the order of the tasks of the program |
 //!
 //! Nothing is owed of keys or of the order where something is no task of the program, as a request is not. Each call

@@ -49,7 +49,7 @@ pub enum Phase<T, R> {
 }
 
 /// Puts another phase in the place of one.
-fn set<T: Drop, R: Drop>(phase: &mut Phase<T, R>, next: Phase<T, R>)
+fn set_phase<T: Drop, R: Drop>(phase: &mut Phase<T, R>, next: Phase<T, R>)
     ensures { phase.new ≡ next }
 {
     *phase = next;
@@ -99,10 +99,10 @@ impl<Y: Program> Loader<Y> {
     {
         match mem::replace(&mut self.phase, Phase::Over) {
             Phase::Looks(task) => match found {
-                None => set(&mut self.phase, Phase::Lacks(task)),
+                None => set_phase(&mut self.phase, Phase::Lacks(task)),
                 Some(value) => self.resume(value)?,
             },
-            phase => set(&mut self.phase, phase),
+            phase => set_phase(&mut self.phase, phase),
         }
         Ok(())
     }
@@ -123,7 +123,7 @@ impl<Y: Program> Loader<Y> {
             Phase::Lacks(task) => self.enter(alloc, theory, task),
             Phase::Runs(task, running) => self.go_on(theory, task, running),
             Phase::Loaded => {
-                set(&mut self.phase, Phase::Loaded);
+                set_phase(&mut self.phase, Phase::Loaded);
                 Ok(LoadStep::Done)
             }
             Phase::Over => Err(AllocError),
@@ -137,11 +137,11 @@ impl<Y: Program> Loader<Y> {
             Resumed (Y.rules s) (Y.runs s) h self.old self.new u) }
     {
         match self.tasks.pop() {
-            None => set(&mut self.phase, Phase::Loaded),
+            None => set_phase(&mut self.phase, Phase::Loaded),
             Some(task) => {
                 if let Some(waiting) = self.waiting.pop() {
                     let running = Y::supply(waiting, value)?;
-                    set(&mut self.phase, Phase::Runs(task, running));
+                    set_phase(&mut self.phase, Phase::Runs(task, running));
                 }
             }
         }
@@ -158,8 +158,8 @@ impl<Y: Program> Loader<Y> {
             left_in (Y.rules s) (Y.runs s) h self.old (Phase.Looks task) < bound →
             Says (Y.rules s) (Y.runs s) h bound self.new told) }
     {
-        let told = Y::copy(&task)?;
-        set(&mut self.phase, Phase::Looks(task));
+        let told = Y::copy_task(&task)?;
+        set_phase(&mut self.phase, Phase::Looks(task));
         Ok(LoadStep::Look(told))
     }
 
@@ -175,7 +175,7 @@ impl<Y: Program> Loader<Y> {
             h.table task ≡ None → left_in r m h self.old (Phase.Lacks task) ≤ bound →
             Says r m h bound self.new told) }
     {
-        let key = theory.key(&task)?;
+        let key = theory.key_of(&task)?;
         match self.keys.insert_full(key) {
             Err(_) => Err(AllocError),
             Ok((_, true)) => {
@@ -204,11 +204,11 @@ impl<Y: Program> Loader<Y> {
             Next::Done(value) => {
                 self.keys.truncate(self.tasks.len());
                 if self.tasks.is_empty() {
-                    set(&mut self.phase, Phase::Loaded);
+                    set_phase(&mut self.phase, Phase::Loaded);
                     return Ok(LoadStep::Define(task, value));
                 }
-                let asked = Y::copy(&task)?;
-                set(&mut self.phase, Phase::Asked(asked));
+                let asked = Y::copy_task(&task)?;
+                set_phase(&mut self.phase, Phase::Asked(asked));
                 Ok(LoadStep::Define(task, value))
             }
             Next::Raised(error) => Ok(LoadStep::Failed(Failure::Raised(error))),

@@ -35,10 +35,10 @@ pub trait Program: Theory {
         ensures { let r = Self.rules self.now in is_task r a.now ≡ true → is_task r b.now ≡ true →
             result ≡ r.at_most a.now b.now };
 
-    fn copy(task: &Self::Task) -> Result<Self::Task, AllocError>
+    fn copy_task(task: &Self::Task) -> Result<Self::Task, AllocError>
         ensures { IfOk result (λ copied. copied ≡ task.now) };
 
-    fn key(&self, task: &Self::Task) -> Result<Self::Key, AllocError>
+    fn key_of(&self, task: &Self::Task) -> Result<Self::Key, AllocError>
         ensures { IfOk result (λ key. key ≡ (runs self.now).key task.now) };
 
     fn begin(&self, task: &Self::Task) -> Result<Self::Running, AllocError>

@@ -29,7 +29,7 @@ returns-then-is_empty g c =
       keys = i.keys.keys;
       phase = i.phase;
     } in
-    rw (c.set.ensures, ← c.self.view_is)
+    rw (c.set_phase.ensures, ← c.self.view_is)
     (λ h bound now le.
     let left = keys_left r m laws h p c.args.task c.args.running now.keyed now.running _ c.len.result
     (c.len.ensures ∙ c.self.inside.tasks.ok.0) c.truncate.ensures.keys in
@@ -49,7 +49,7 @@ returns-in_ok-asked-in-Done g c =
       keys = i.keys.keys;
       phase = i.phase;
     } in
-    rw (c.set-in-Done.ensures, ← c.self.view_is)
+    rw (c.set_phase-in-Done.ensures, ← c.self.view_is)
     (λ h bound now le.
     let left = keys_left r m laws h p c.args.task c.args.running now.keyed now.running _ c.len.result
     (c.len.ensures ∙ c.self.inside.tasks.ok.0) c.truncate.ensures.keys in
