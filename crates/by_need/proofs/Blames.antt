@@ -154,6 +154,20 @@ module _ {T V E O : Type 0} (r : Rules T V E O) (laws : Lawful r) where
   follow_task zero t h = h
   follow_task (suc n) t h = follow_task n (next r t) (next_task t h)
 
+  -- where no task's run ends otherwise, no blame does
+  pub never_ended : ((t : T) (o : O) → is_task r t ≡ true → (r.run t (known r)).answer ≡ Otherwise o → ⊥) → (t : T)
+      (o : O) → is_task r t ≡ true → blame r t ≡ Ended o → ⊥
+  never_ended never t o h b = at ((r.run last (known r)).answer) refl b
+    where
+      last : T
+      last = follow r (length r.tasks) t
+
+      at : (a : Answer T V E O) → (r.run last (known r)).answer ≡ a → cause_at r last a ≡ Ended o → ⊥
+      at (Done v) e f = absurd cc
+      at (Raised x) e f = absurd cc
+      at (Asks u) e f = absurd cc
+      at (Otherwise p) e f = never last p (follow_task (length r.tasks) t h) e
+
   -- the order has each task at most itself
   pub at_most_self : (t : T) → r.at_most t t ≡ true
   at_most_self t = at (r.at_most t t) refl

@@ -59,6 +59,9 @@
 //! | `asked_is_a_task` | what is asked for is a task, whether a task asks or a request |
 //! | `known_is_fixed` | a task is known exactly where its run over all that is known is done, with that value |
 //! | `ring_has_one_blame` | a task has the blame of the task that it waits for, so a ring has one |
+//! | `no_blame_ends_otherwise` | where every task's run has a value, an error or a question, a blame is an error or a
+//! ring |
+//! | `load_has_one_order` | a load of a task over a table has one order of defines, one table in the end and one end |
 #![tactic(auto)]
 
 ghost use Rattle.by_need.specs.Laws.{Lawful};
