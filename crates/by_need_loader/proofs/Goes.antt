@@ -99,12 +99,12 @@ module _ {T V E O R W N : Type 0} (r : Rules T V E O) (m : Runs T V E O R W N) (
 
       -- a key that was not there is entered for it
       pub enters : (ks : List N) (run : R) (bound : ℕ) → true ≡ not (list_any (eq key) p.keys) →
-          ks ≡ insert_key eq p.keys key → ((L : T → Option V) → r.run u L ≡ over L (m.rest run)) →
+          ks ≡ insert_key eq p.keys key → (is_task r u ≡ true → (L : T → Option V) → r.run u L ≡ over L (m.rest run)) →
           left_in r m h p (phase.Lacks u) ≤ bound → Enters ks run bound
       enters ks run bound new e begun le =
           let out : is_in r u p.tasks ≡ false = sym key_among ∙ not_so (list_any (eq key) p.keys) new in
           let x = entered r m.branch m.rest laws h.wanted h.at_first h.made h.table
-          p.tasks p.waiting u w.opened w.before none out run begun bound le in
+          p.tasks p.waiting u w.opened w.before none out run (begun waited_task) bound le in
           record {
             keyed = e ∙ insert_key-new eq p.keys key (not_so (list_any (eq key) p.keys) new)
                 ∙ ap (λ k. p.keys ++ k ∷ []) is ∙ ap (λ xs. xs ++ m.key u ∷ []) w.keyed

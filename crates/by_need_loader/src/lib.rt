@@ -46,8 +46,8 @@
 //! | `key_of` | what tells the tasks of the program apart |
 //! | `at_most` | the order of the tasks of the program |
 //!
-//! Nothing is owed of keys or of the order where something is no task of the program, as a request is not. Each call
-//! but `at_most` may lack memory, and then the load ends with that.
+//! Of `begin`, of keys and of the order nothing is owed where something is no task of the program, as a request is not.
+//! Each call but `at_most` may lack memory, and then the load ends with that.
 //!
 //! # What is proved
 //!

@@ -110,7 +110,6 @@ impl<Y: Program> Loader<Y> {
     /// The next step. Before it a look is answered, and a define is done in the table.
     pub fn step(
         &mut self,
-        alloc: Global,
         theory: &Y,
     ) -> Result<LoadStep<Y::Task, Y::Value, Y::Error, Y::Other>, AllocError>
         ensures { let r = Y.rules theory.now in let m = Y.runs theory.now in
@@ -120,7 +119,7 @@ impl<Y: Program> Loader<Y> {
         match mem::replace(&mut self.phase, Phase::Over) {
             Phase::Asked(task) => self.look(task),
             Phase::Looks(task) => self.look(task),
-            Phase::Lacks(task) => self.enter(alloc, theory, task),
+            Phase::Lacks(task) => self.enter(theory, task),
             Phase::Runs(task, running) => self.go_on(theory, task, running),
             Phase::Loaded => {
                 set_phase(&mut self.phase, Phase::Loaded);
@@ -166,7 +165,6 @@ impl<Y: Program> Loader<Y> {
     /// Begins the run of a task that the table lacks, or names the ring that it closes.
     fn enter(
         &mut self,
-        alloc: Global,
         theory: &Y,
         task: Y::Task,
     ) -> Result<LoadStep<Y::Task, Y::Value, Y::Error, Y::Other>, AllocError>
@@ -183,7 +181,8 @@ impl<Y: Program> Loader<Y> {
                 self.go_on(theory, task, running)
             }
             Ok((place, false)) => {
-                let tasks = mem::replace(&mut self.tasks, Vec::new(alloc));
+                let none = Vec::new(*self.tasks.allocator());
+                let tasks = mem::replace(&mut self.tasks, none);
                 Ok(LoadStep::Failed(Failure::Circle(ring_from(theory, tasks, place))))
             }
         }

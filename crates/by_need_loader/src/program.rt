@@ -42,7 +42,8 @@ pub trait Program: Theory {
         ensures { IfOk result (λ key. key ≡ (runs self.now).key task.now) };
 
     fn begin(&self, task: &Self::Task) -> Result<Self::Running, AllocError>
-        ensures { IfOk result (λ running. (runs self.now).rest running ≡ (runs self.now).whole task.now) };
+        ensures { IfOk result (λ running. is_task (Self.rules self.now) task.now ≡ true →
+            (runs self.now).rest running ≡ (runs self.now).whole task.now) };
 
     /// Goes on to the end or to the next question.
     fn run(

@@ -16,8 +16,8 @@ returns-in_ok-running-in-Ok-default-true g c =
     (g.met.Y.Program.tells_apart c.args.theory.now) c.in_ok-key.key
     c.in_ok-key.ensures _ c.in_ok-running-in-Ok-default-true.running bound
     (sym c.in-Ok-default-true.field-0-1-test ∙ new.added) new.keys
-    (λ L. g.met.Y.Program.follows c.args.theory.now c.args.task L
-    ∙ ap (over L) (sym c.in_ok-running-in-Ok-default-true.ensures)) le in
+    (λ is L. g.met.Y.Program.follows c.args.theory.now c.args.task L
+    ∙ ap (over L) (sym (c.in_ok-running-in-Ok-default-true.ensures is))) le in
     f h bound (record { keyed = e.keyed; running = e.runs }) e.less)
     c.go_on.ensures)
 
