@@ -6,3 +6,4 @@ pub mod Blames
 pub mod Loads
 pub mod Measure
 pub mod OneBlame
+pub mod OneLoad

@@ -1,25 +1,27 @@
 -- A load, step by step: the tasks that are open, each asking for the next, over a table that grows.
 use Rattle.std.proofs.Common.{◌≡◌, ℕ, zero, suc, ◌+◌, ◌-◌, ◌≤◌, ◌<◌, List, [], ◌∷◌, ◌++◌, length, Option, Some, None}
-use Rattle.std.proofs.Common.{Bool, true, false, ◌⊎◌, inl, inr, refl, sym, ap, ◌∙◌, subst, subst₂, ap₂, arith, take}
+use Rattle.std.proofs.Common.{Bool, true, false, inl, inr, refl, sym, ap, ◌∙◌, subst, subst₂, ap₂, arith, take}
 use Rattle.std.proofs.Common.{drop, get_or, length-append}
 use Rattle.std.specs.List.{AllByRecursion, IsDistinct}
 use Rattle.std.specs.Cmp.{IsEquivalence}
 use Rattle.std.proofs.lemmas.Map.Made.{length-le_from_is_member}
+use Rattle.std.proofs.lemmas.List.Folds.{list_any-append}
 use Rattle.std.proofs.lemmas.Bool.{false≢true, or_from, or_cases, or_parts}
-use Rattle.by_need.proofs.Rounds.{Part-trans, lacks}
-use Rattle.by_need.proofs.Tables.{Chain, NoneKnown, first_or, asks_task, asks_needs, done_known, raised_known}
-use Rattle.by_need.proofs.Tables.{raised_lost, otherwise_known, otherwise_lost, chain_lost, ring_lost, chain_grow}
-use Rattle.by_need.proofs.Tables.{chain_push, chain_pop, chain_front, chain_back}
+use Rattle.by_need.proofs.Rounds.{lacks}
+use Rattle.by_need.proofs.Tables.{Chain, NoneKnown, first_or, asks_task, asks_needs, raised_known}
+use Rattle.by_need.proofs.Tables.{raised_lost, otherwise_known, otherwise_lost, chain_lost, ring_lost}
+use Rattle.by_need.proofs.Tables.{chain_push, chain_front, chain_back}
 use Rattle.by_need.proofs.Blames.{Ring, in_walk, blame_raised, blame_otherwise, blame_ring, chain_follow, chain_walk}
 use Rattle.by_need.proofs.Blames.{chain_asks, walk_add, drop-walk, take-walk, get_or-walk, follow_add}
-use Rattle.by_need.specs.Asking.{Done, Raised, Asks, Otherwise}
+use Rattle.by_need.specs.Asking.{Raised, Asks, Otherwise}
 use Rattle.by_need.specs.Rounds.{Rules, Part, Needs, is_in, is_task, known}
 use Rattle.by_need.specs.Blame.{Fault, Circle, Ended, next, follow, walk, blame}
 use Rattle.by_need.specs.Laws.{Lawful}
-use Rattle.by_need.specs.Load.{Defines, Gains}
+use Rattle.by_need.specs.Load.{Defines}
 pub use Rattle.by_need.specs.Open.{Apart, AllTasks, Loading}
 
 module _ {T V E O : Type 0} (r : Rules T V E O) (laws : Lawful r) where
+  -- to differ goes both ways
   pub differ : (a b : T) → r.same a b ≡ false → r.same b a ≡ false
   differ a b e = at (r.same b a) refl
     where
@@ -28,31 +30,28 @@ module _ {T V E O : Type 0} (r : Rules T V E O) (laws : Lawful r) where
           (sym e ∙ subst (λ x. r.same a x ≡ true) (sym (laws.same_is b a f)) (laws.same_self a)))
       at false f = f
 
+  -- what is in neither of two lists is not in both together
   pub not_in_append : (x : T) (ts us : List T) → is_in r x ts ≡ false → is_in r x us ≡ false →
       is_in r x (ts ++ us) ≡ false
-  not_in_append x [] us h k = k
-  not_in_append x (t ∷ ts) us h k = let p = or_parts (r.same x t) _ h in
-      or_from (r.same x t) _ p.0 (not_in_append x ts us p.1 k)
+  not_in_append x ts us h k = list_any-append (r.same x) ts us ∙ or_from (is_in r x ts) _ h k
 
-  not_in_front : (x : T) (ts us : List T) → is_in r x (ts ++ us) ≡ false → is_in r x ts ≡ false
-  not_in_front x [] us h = refl
-  not_in_front x (t ∷ ts) us h = let p = or_parts (r.same x t) _ h in
-      or_from (r.same x t) _ p.0 (not_in_front x ts us p.1)
+  not_in_parts : (x : T) (ts us : List T) → is_in r x (ts ++ us) ≡ false → (is_in r x ts ≡ false)
+      × (is_in r x us ≡ false)
+  not_in_parts x ts us h = or_parts (is_in r x ts) _ (sym (list_any-append (r.same x) ts us) ∙ h)
 
-  not_in_back : (x : T) (ts us : List T) → is_in r x (ts ++ us) ≡ false → is_in r x us ≡ false
-  not_in_back x [] us h = h
-  not_in_back x (t ∷ ts) us h = let p = or_parts (r.same x t) _ h in not_in_back x ts us p.1
-
+  -- a task that is not in the list may stand behind it
   pub apart_push : (ts : List T) (u : T) → Apart r ts → is_in r u ts ≡ false → Apart r (ts ++ u ∷ [])
   apart_push [] u a h = (refl, tt)
   apart_push (t ∷ ts) u a h =
       let p = or_parts (r.same u t) _ h in
       (not_in_append t ts (u ∷ []) a.0 (or_from (r.same t u) false (differ u t p.0) refl), apart_push ts u a.1 p.1)
 
+  -- the front of tasks that stand apart
   pub apart_front : (ts us : List T) → Apart r (ts ++ us) → Apart r ts
   apart_front [] us a = tt
-  apart_front (t ∷ ts) us a = (not_in_front t ts us a.0, apart_front ts us a.1)
+  apart_front (t ∷ ts) us a = ((not_in_parts t ts us a.0).0, apart_front ts us a.1)
 
+  -- the back of tasks that stand apart
   pub apart_back : (ts us : List T) → Apart r (ts ++ us) → Apart r us
   apart_back [] us a = a
   apart_back (t ∷ ts) us a = apart_back ts us a.1
@@ -61,18 +60,21 @@ module _ {T V E O : Type 0} (r : Rules T V E O) (laws : Lawful r) where
   pub apart_last : (ts : List T) (t : T) → Apart r (ts ++ t ∷ []) → is_in r t ts ≡ false
   apart_last [] t a = refl
   apart_last (x ∷ ts) t a =
-      let p = or_parts (r.same x t) false (not_in_back x ts (t ∷ []) a.0) in
+      let p = or_parts (r.same x t) false (not_in_parts x ts (t ∷ []) a.0).1 in
       or_from (r.same t x) _ (differ x t p.0) (apart_last ts t a.1)
 
+  -- the first task stays where one is put behind all
   pub first_push : (ts : List T) (t u : T) → first_or u (ts ++ t ∷ []) ≡ first_or t ts
   first_push [] t u = refl
   first_push (x ∷ ts) t u = refl
 
+  -- a chain that begins with a task has tasks alone
   pub chain_tasks : (ts : List T) (t : T) (K : T → Option V) → Part K (known r) → Chain r K ts t →
       is_task r (first_or t ts) ≡ true → AllTasks r (ts ++ t ∷ [])
   chain_tasks [] t K p c h = (h, tt)
   chain_tasks (x ∷ ts) t K p c h = (h, chain_tasks ts t K p c.1 (asks_task r laws x K (first_or t ts) p c.0))
 
+  -- and leads to a task
   pub chain_last_task : (ts : List T) (t : T) (K : T → Option V) → Part K (known r) → Chain r K ts t →
       is_task r (first_or t ts) ≡ true → is_task r t ≡ true
   chain_last_task [] t K p c h = h
@@ -89,6 +91,7 @@ module _ {T V E O : Type 0} (r : Rules T V E O) (laws : Lawful r) where
   chain_none [] t K n c = (tt, n)
   chain_none (x ∷ ts) t K n c = let i = chain_none ts t K (lacks r laws x K (first_or t ts) c.0) c.1 in ((n, i.0), i.1)
 
+  -- a define of another task leaves the list unknown
   pub none_kept : (ts : List T) (K L : T → Option V) (t : T) (v : V) → Defines r K t v L → is_in r t ts ≡ false →
       NoneKnown K ts → NoneKnown L ts
   none_kept [] K L t v d h n = tt
@@ -96,17 +99,15 @@ module _ {T V E O : Type 0} (r : Rules T V E O) (laws : Lawful r) where
       let p = or_parts (r.same t x) _ h in
       (d.old x (differ t x p.0) ∙ n.0, none_kept ts K L t v d p.1 n.1)
 
+  -- the front of unknown tasks
   pub none_front : (ts : List T) (s : T) (L : T → Option V) → NoneKnown L (ts ++ s ∷ []) → NoneKnown L ts
   none_front [] s L n = tt
   none_front (x ∷ ts) s L n = (n.0, none_front ts s L n.1)
 
+  -- the last of unknown tasks
   pub none_last : (ts : List T) (s : T) (L : T → Option V) → NoneKnown L (ts ++ s ∷ []) → L s ≡ None
   none_last [] s L n = n.0
   none_last (x ∷ ts) s L n = none_last ts s L n.1
-
-  none_first : (ts : List T) (s : T) (L : T → Option V) → NoneKnown L (ts ++ s ∷ []) → L (first_or s ts) ≡ None
-  none_first [] s L n = n.0
-  none_first (x ∷ ts) s L n = n.0
 
   -- as many tasks are open as there are, at most
   equivalence : IsEquivalence r.same
@@ -138,9 +139,11 @@ module _ {T V E O : Type 0} (r : Rules T V E O) (laws : Lawful r) where
         | inr e ↦ tasks_each ts a.1 t e
       ]
 
+  -- tasks that stand apart are as many as all tasks, at most
   pub few : (ts : List T) → Apart r ts → AllTasks r ts → length ts ≤ length r.tasks
   few ts a h = length-le_from_is_member equivalence ts r.tasks (apart_distinct ts a) (tasks_each ts h)
 
+  -- a table with one known value more is still part of what is known
   pub defines_part : (K L : T → Option V) (t : T) (v : V) → Part K (known r) → known r t ≡ Some v →
       Defines r K t v L → Part L (known r)
   defines_part K L t v p k d = record { keeps = λ u w h. at u w h (r.same u t) refl }
@@ -149,6 +152,7 @@ module _ {T V E O : Type 0} (r : Rules T V E O) (laws : Lawful r) where
       at u w h true e = let i = laws.same_is u t e in ap (known r) i ∙ k ∙ sym d.new ∙ ap L (sym i) ∙ h
       at u w h false e = p.keeps u w (sym (d.old u e) ∙ h)
 
+  -- and the table before is part of it
   pub defines_grows : (K L : T → Option V) (t : T) (v : V) → K t ≡ None → Defines r K t v L → Part K L
   defines_grows K L t v n d = record { keeps = λ u w h. at u w h (r.same u t) refl }
     where
@@ -157,69 +161,24 @@ module _ {T V E O : Type 0} (r : Rules T V E O) (laws : Lawful r) where
       at u w h false e = d.old u e ∙ h
 
   module _ (task : T) (is : is_task r task ≡ true) where
-    pub begins : (K : T → Option V) → Part K (known r) → K task ≡ None → Loading r task K [] task
-    begins K p n = record { part = p; chain = tt; start = refl; fresh = n; apart = (refl, tt) }
-
+    -- no open task is in the table, nor is the one that runs
     pub open_none : (K : T → Option V) (ts : List T) (t : T) → Loading r task K ts t → NoneKnown K ts × (K t ≡ None)
     open_none K ts t l = chain_none ts t K (ap K l.start ∙ l.fresh) l.chain
 
+    -- the task that runs is a task
     pub open_task : (K : T → Option V) (ts : List T) (t : T) → Loading r task K ts t → is_task r t ≡ true
     open_task K ts t l = chain_last_task ts t K l.part l.chain (ap (is_task r) l.start ∙ is)
 
+    -- the wanted task needs it
     pub open_needed : (K : T → Option V) (ts : List T) (t : T) → Loading r task K ts t → Needs r task t
     open_needed K ts t l = chain_needs task ts t K l.part (subst (Needs r task) (sym l.start) Needs.itself) l.chain
 
-    pub pushes : (K : T → Option V) (ts : List T) (t u : T) → Loading r task K ts t → (r.run t K).answer ≡ Asks u →
-        is_in r u (ts ++ t ∷ []) ≡ false → Loading r task K (ts ++ t ∷ []) u
-    pushes K ts t u l e h = record {
-      part = l.part;
-      chain = chain_push r laws ts K t u l.chain e;
-      start = first_push ts t u ∙ l.start;
-      fresh = l.fresh;
-      apart = apart_push (ts ++ t ∷ []) u l.apart h;
-    }
-
-    -- the value of the last one is defined, and the one before it goes on
-    pub pops : (K L : T → Option V) (ts : List T) (s t : T) (v : V) → Loading r task K (ts ++ s ∷ []) t →
-        (r.run t K).answer ≡ Done v → Defines r K t v L → Loading r task L ts s
-    pops K L ts s t v l e d =
-        let n = open_none K (ts ++ s ∷ []) t l in
-        let k = done_known r laws t K v l.part (open_task K (ts ++ s ∷ []) t l) e in
-        let grows = defines_grows K L t v n.1 d in
-        let out : is_in r t (ts ++ s ∷ []) ≡ false = apart_last (ts ++ s ∷ []) t l.apart in
-        let none : NoneKnown L (ts ++ s ∷ []) = none_kept (ts ++ s ∷ []) K L t v d out n.0 in
-        let first : first_or s ts ≡ task = sym (first_push ts s t) ∙ l.start in
-        record {
-          part = defines_part K L t v l.part k d;
-          chain = chain_grow r laws ts K L s grows (none_front ts s L none) (none_last ts s L none)
-              (chain_pop r laws ts K s t l.chain);
-          start = first;
-          fresh = ap L (sym first) ∙ none_first ts s L none;
-          apart = apart_front (ts ++ s ∷ []) (t ∷ []) l.apart;
-        }
-
-    pub gains_more : (K J L : T → Option V) (ts : List T) (t : T) (v : V) → Gains r task K J →
-        Loading r task J ts t → Defines r J t v L → Gains r task K L
-    gains_more K J L ts t v g l d = record {
-      keeps = Part-trans g.keeps (defines_grows J L t v (open_none J ts t l).1 d);
-      needed = λ u w h. at u w h (r.same u t) refl;
-    }
-      where
-        at : (u : T) (w : V) → L u ≡ Some w → (b : Bool) → r.same u t ≡ b → (K u ≡ Some w) ⊎ Needs r task u
-        at u w h true e = inr (subst (Needs r task) (sym (laws.same_is u t e)) (open_needed J ts t l))
-        at u w h false e = g.needed u w (sym (d.old u e) ∙ h)
-
-    -- the last task is the one that was wanted
-    pub ends_done : (K L : T → Option V) (t : T) (v : V) → Loading r task K [] t → (r.run t K).answer ≡ Done v →
-        Defines r K t v L → Part L (known r) × (L task ≡ Some v) × (known r task ≡ Some v)
-    ends_done K L t v l e d =
-        let k = done_known r laws t K v l.part (open_task K [] t l) e in
-        (defines_part K L t v l.part k d, ap L (sym l.start) ∙ d.new, ap (known r) (sym l.start) ∙ k)
-
+    -- the open tasks are as many as all tasks, at most
     pub open_few : (K : T → Option V) (ts : List T) (t : T) → Loading r task K ts t →
         length (ts ++ t ∷ []) ≤ length r.tasks
     open_few K ts t l = few (ts ++ t ∷ []) l.apart (chain_tasks ts t K l.part l.chain (ap (is_task r) l.start ∙ is))
 
+    -- a run raises: the error is the blame of the wanted task
     pub ends_raised : (K : T → Option V) (ts : List T) (t : T) (e : E) → Loading r task K ts t →
         (r.run t K).answer ≡ Raised e → (known r task ≡ None) × (blame r task ≡ Fault e)
     ends_raised K ts t e l h =
@@ -232,6 +191,7 @@ module _ {T V E O : Type 0} (r : Rules T V E O) (laws : Lawful r) where
               (chain_follow r ts t c.0) h',
         )
 
+    -- a run ends otherwise: that is the blame of the wanted task
     pub ends_otherwise : (K : T → Option V) (ts : List T) (t : T) (o : O) → Loading r task K ts t →
         (r.run t K).answer ≡ Otherwise o → (known r task ≡ None) × (blame r task ≡ Ended o)
     ends_otherwise K ts t o l h =
@@ -244,6 +204,7 @@ module _ {T V E O : Type 0} (r : Rules T V E O) (laws : Lawful r) where
               (chain_follow r ts t c.0) h',
         )
 
+    -- a run asks for an open task: the ring from there, turned to its least, is the blame of the wanted task
     pub ends_ring : (K : T → Option V) (ts : List T) (t u : T) (front mid : List T) (i : ℕ) → Loading r task K ts t →
         (r.run t K).answer ≡ Asks u → ts ++ t ∷ [] ≡ front ++ u ∷ mid → i < length (u ∷ mid) →
         ((k : ℕ) → k < length (u ∷ mid) → r.at_most (get_or (u ∷ mid) i u) (get_or (u ∷ mid) k u) ≡ true) →

@@ -14,6 +14,7 @@ total-le f g le [] = omega arith
 total-le f g le (t ∷ ts) = omega (arith, le t, total-le f g le ts)
 
 module _ {T V E O : Type 0} (r : Rules T V E O) (laws : Lawful r) where
+  -- one of a list weighs no more than all of it
   pub total-member : (f : T → ℕ) (ts : List T) (u : T) → is_in r u ts ≡ true → f u ≤ total f ts
   total-member f [] u h = absurd (false≢true h)
   total-member f (t ∷ ts) u h =
@@ -22,6 +23,7 @@ module _ {T V E O : Type 0} (r : Rules T V E O) (laws : Lawful r) where
         | inr e ↦ omega (arith, total-member f ts u e)
       ]
 
+  -- less at one task, and more at none, is less in all
   pub total-lt : (f g : T → ℕ) → ((t : T) → f t ≤ g t) → (ts : List T) (u : T) → is_in r u ts ≡ true → f u < g u →
       total f ts < total g ts
   total-lt f g le [] u h lt = absurd (false≢true h)
@@ -32,6 +34,7 @@ module _ {T V E O : Type 0} (r : Rules T V E O) (laws : Lawful r) where
         | inr e ↦ omega (arith, le t, total-lt f g le ts u e lt)
       ]
 
+  -- a load that begins leaves less to do
   pub left_pushes : (K : T → Option V) (ts : List T) (u : T) → K u ≡ None → is_task r u ≡ true →
       is_in r u ts ≡ false → left r K (ts ++ u ∷ []) < left r K ts
   left_pushes K ts u n h out =
@@ -49,6 +52,7 @@ module _ {T V E O : Type 0} (r : Rules T V E O) (laws : Lawful r) where
           any true = omega arith
           any false = omega arith
 
+  -- a define leaves less to do
   pub left_pops : (K L : T → Option V) (ts : List T) (t : T) (v : V) → K t ≡ None → is_task r t ≡ true →
       is_in r t ts ≡ false → Defines r K t v L → left r L ts < left r K (ts ++ t ∷ [])
   left_pops K L ts t v n h out d =

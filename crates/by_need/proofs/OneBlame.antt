@@ -43,8 +43,7 @@ module _ {T V E O : Type 0} (r : Rules T V E O) (laws : Lawful r) where
                   period = c.period;
                   some = c.some;
                   within = omega (arith, w);
-                  back =
-                      c.back;
+                  back = c.back;
                 })
           ]
 
@@ -82,8 +81,7 @@ module _ {T V E O : Type 0} (r : Rules T V E O) (laws : Lawful r) where
             some = omega arith;
             within = omega arith;
             back = laws.same_is _ x e;
-            first =
-                λ j pos lt. none j pos (omega (arith, lt));
+            first = λ j pos lt. none j pos (omega (arith, lt));
           })
       at false e (inl none) =
           inl (λ j pos le h. elim (cases_lt j (suc n)) [
@@ -119,11 +117,10 @@ module _ {T V E O : Type 0} (r : Rules T V E O) (laws : Lawful r) where
             small = f.within;
             back = f.back;
             first = f.first;
-            asks =
-                λ j lt. elim (asks_or_stays (follow r j x)) [
-                  | inl a ↦ a
-                  | inr s ↦ (w, subst (λ z. (r.run z (known r)).answer ≡ Asks w) (sym (same f j lt s)) e)
-                ];
+            asks = λ j lt. elim (asks_or_stays (follow r j x)) [
+              | inl a ↦ a
+              | inr s ↦ (w, subst (λ z. (r.run z (known r)).answer ≡ Asks w) (sym (same f j lt s)) e)
+            ];
           },
         )
       where
@@ -167,6 +164,7 @@ module _ {T V E O : Type 0} (r : Rules T V E O) (laws : Lawful r) where
             let b = asks_on r laws x ring.0 ring.1 (next r y) (on_next r laws x ring.0 ring.1 y oy) in
             ap (cause_at r (next r y)) b.1 ∙ ap Circle (same_ring x ring.0 ring.1 y oy) ∙ sym (ap (cause_at r y) e)
 
+    -- a task and the one that it leads to have one blame
     pub blame_next : blame r (next r t) ≡ blame r t
     blame_next =
         let n = length r.tasks in

@@ -1,7 +1,8 @@
 -- What a run over a part of what is known tells.
 use Rattle.std.proofs.Common.{◌≡◌, ℕ, zero, suc, ◌≤◌, ◌<◌, List, [], ◌∷◌, ◌++◌, length, Option, Some, None, true, false}
 use Rattle.std.proofs.Common.{is_some, inl, inr, sym, ap, ◌∙◌, subst, arith}
-use Rattle.std.proofs.lemmas.Bool.{false≢true, or_cases, or_right, or_left}
+use Rattle.std.proofs.lemmas.List.Folds.{list_any-append}
+use Rattle.std.proofs.lemmas.Bool.{false≢true, or_right, or_left}
 use Rattle.by_need.proofs.Counts.{some_value, some_is, none_or_some}
 use Rattle.by_need.proofs.Rounds.{round-le, known_gives, known_takes, origin, grow_done, grow_raised, grow_otherwise}
 use Rattle.by_need.proofs.Rounds.{grow_asks}
@@ -14,17 +15,13 @@ asks_same : {T V E O : Type 0} {a : Answer T V E O} {u w : T} → a ≡ Asks u �
 asks_same p q = cc
 
 module _ {T V E O : Type 0} (r : Rules T V E O) (laws : Lawful r) where
+  -- what is in the back of a list is in the list
   pub in_append_right : (t : T) (ts us : List T) → is_in r t us ≡ true → is_in r t (ts ++ us) ≡ true
-  in_append_right t [] us h = h
-  in_append_right t (x ∷ ts) us h = or_right (r.same t x) _ (in_append_right t ts us h)
+  in_append_right t ts us h = list_any-append (r.same t) ts us ∙ or_right (is_in r t ts) _ h
 
+  -- what is in the front of a list is in the list
   pub in_append_left : (t : T) (ts us : List T) → is_in r t ts ≡ true → is_in r t (ts ++ us) ≡ true
-  in_append_left t [] us h = absurd (false≢true h)
-  in_append_left t (x ∷ ts) us h =
-      elim (or_cases (r.same t x) (is_in r t ts) h) [
-        | inl e ↦ or_left (r.same t x) _ e
-        | inr e ↦ or_right (r.same t x) _ (in_append_left t ts us e)
-      ]
+  in_append_left t ts us h = list_any-append (r.same t) ts us ∙ or_left (is_in r t ts) _ h
 
   -- the task that a run stops at is asked for by each run over more
   pub asks_asked : (t : T) (K L : T → Option V) (u : T) → Part K L → (r.run t K).answer ≡ Asks u →
@@ -48,6 +45,7 @@ module _ {T V E O : Type 0} (r : Rules T V E O) (laws : Lawful r) where
       is_task r u ≡ true
   asks_task t K u p e = laws.closed t u (asks_asked t K (known r) u p e)
 
+  -- what a needed task waits for is needed
   pub asks_needs : (s t : T) (K : T → Option V) (u : T) → Part K (known r) → Needs r s t →
       (r.run t K).answer ≡ Asks u → Needs r s u
   asks_needs s t K u p n e = Needs.asked n (asks_asked t K (known r) u p e)
@@ -57,20 +55,24 @@ module _ {T V E O : Type 0} (r : Rules T V E O) (laws : Lawful r) where
       (r.run t K).answer ≡ Done v → known r t ≡ Some v
   done_known t K v p h e = known_takes r laws t v h (ap (λ o. o.answer) (grow_done r laws t K (known r) v p e) ∙ e)
 
+  -- an error of a run over a part is that of the run over all that is known
   pub raised_known : (t : T) (K : T → Option V) (e : E) → Part K (known r) → (r.run t K).answer ≡ Raised e →
       (r.run t (known r)).answer ≡ Raised e
   raised_known t K x p e = ap (λ o. o.answer) (grow_raised r laws t K (known r) x p e) ∙ e
 
+  -- and so is an end of another kind
   pub otherwise_known : (t : T) (K : T → Option V) (o : O) → Part K (known r) → (r.run t K).answer ≡ Otherwise o →
       (r.run t (known r)).answer ≡ Otherwise o
   otherwise_known t K o p e = ap (λ x. x.answer) (grow_otherwise r laws t K (known r) o p e) ∙ e
 
+  -- a task whose run ends otherwise stays unknown
   pub otherwise_lost : (t : T) (o : O) → (r.run t (known r)).answer ≡ Otherwise o → known r t ≡ None
   otherwise_lost t o e = elim (none_or_some (known r t)) [
     | inl n ↦ n
     | inr s ↦ let g = known_gives r laws t s.0 s.1 in absurd cc
   ]
 
+  -- a task whose run raises stays unknown
   pub raised_lost : (t : T) (e : E) → (r.run t (known r)).answer ≡ Raised e → known r t ≡ None
   raised_lost t x e = elim (none_or_some (known r t)) [
     | inl n ↦ n
@@ -78,6 +80,7 @@ module _ {T V E O : Type 0} (r : Rules T V E O) (laws : Lawful r) where
         absurd cc
   ]
 
+  -- a task whose run waits to the end stays unknown
   pub asks_lost : (t u : T) → (r.run t (known r)).answer ≡ Asks u → known r t ≡ None
   asks_lost t u e = elim (none_or_some (known r t)) [
     | inl n ↦ n
@@ -85,6 +88,7 @@ module _ {T V E O : Type 0} (r : Rules T V E O) (laws : Lawful r) where
         absurd cc
   ]
 
+  -- a run that is done has all that it asked for
   pub done_has : (t : T) (K : T → Option V) (v : V) (u : T) → (r.run t K).answer ≡ Done v →
       is_in r u (r.run t K).asked ≡ true → is_some (K u) ≡ true
   done_has t K v u e m = elim (laws.asked_known t K u m) [ inl h ↦ h | inr h ↦ absurd cc ]
@@ -109,6 +113,7 @@ module _ {T V E O : Type 0} (r : Rules T V E O) (laws : Lawful r) where
       known r u ≡ None → (r.run t (known r)).answer ≡ Asks u
   lost_back t K u p e n = ap (λ o. o.answer) (grow_asks r laws t K (known r) u p e n) ∙ e
 
+  -- a chain that leads to a lost task is lost, and asks so to the end
   pub chain_lost : (ts : List T) (K : T → Option V) (u : T) → Part K (known r) → known r u ≡ None → Chain r K ts u →
       Chain r (known r) ts u × (known r (first_or u ts) ≡ None)
   chain_lost [] K u p n c = (tt, n)
@@ -143,33 +148,20 @@ module _ {T V E O : Type 0} (r : Rules T V E O) (laws : Lawful r) where
             (some_is _ s.0 s.1))
       ]
 
-  -- over a larger table that knows none of them a chain stays
-  pub chain_grow : (ts : List T) (K L : T → Option V) (u : T) → Part K L → NoneKnown L ts → L u ≡ None →
-      Chain r K ts u → Chain r L ts u
-  chain_grow [] K L u p n m c = tt
-  chain_grow (t ∷ []) K L u p n m c = (ap (λ o. o.answer) (grow_asks r laws t K L u p c.0 m) ∙ c.0, tt)
-  chain_grow (t ∷ x ∷ ts) K L u p n m c = (
-    ap (λ o. o.answer) (grow_asks r laws t K L x p c.0 n.1.0)
-        ∙ c.0,
-    chain_grow (x ∷ ts) K L u p n.1 m c.1,
-  )
-
+  -- a chain with one task more at its end
   pub chain_push : (ts : List T) (K : T → Option V) (t u : T) → Chain r K ts t → (r.run t K).answer ≡ Asks u →
       Chain r K (ts ++ t ∷ []) u
   chain_push [] K t u c e = (e, tt)
   chain_push (x ∷ []) K t u c e = (c.0, (e, tt))
   chain_push (x ∷ y ∷ ts) K t u c e = (c.0, chain_push (y ∷ ts) K t u c.1 e)
 
-  pub chain_pop : (ts : List T) (K : T → Option V) (t u : T) → Chain r K (ts ++ t ∷ []) u → Chain r K ts t
-  chain_pop [] K t u c = tt
-  chain_pop (x ∷ []) K t u c = (c.0, tt)
-  chain_pop (x ∷ y ∷ ts) K t u c = (c.0, chain_pop (y ∷ ts) K t u c.1)
-
+  -- the front of a chain
   pub chain_front : (ts us : List T) (K : T → Option V) (u z : T) → Chain r K (ts ++ u ∷ us) z → Chain r K ts u
   chain_front [] us K u z c = tt
   chain_front (x ∷ []) us K u z c = (c.0, tt)
   chain_front (x ∷ y ∷ ts) us K u z c = (c.0, chain_front (y ∷ ts) us K u z c.1)
 
+  -- the back of a chain
   pub chain_back : (ts us : List T) (K : T → Option V) (z : T) → Chain r K (ts ++ us) z → Chain r K us z
   chain_back [] us K z c = c
   chain_back (x ∷ ts) us K z c = chain_back ts us K z c.1
@@ -180,6 +172,7 @@ module _ {T V E O : Type 0} (r : Rules T V E O) (laws : Lawful r) where
   done_ends t K v u p e m =
       done_has t K v u e (subst (λ o. is_in r u o.asked ≡ true) (grow_done r laws t K (known r) v p e) m)
 
+  -- a run that waits for a lost task has all else that it asks for over all that is known
   pub lost_ends : (t : T) (K : T → Option V) (w u : T) → Part K (known r) → (r.run t K).answer ≡ Asks w →
       known r w ≡ None → is_in r u (r.run t (known r)).asked ≡ true → is_some (known r u) ≡ true → is_some (K u) ≡ true
   lost_ends t K w u p e n m k =

@@ -31,6 +31,7 @@ module _ {T V E O : Type 0} where
   prefix_at K L p u f g ih (Some v) (Some w) h e = let e' = p.keeps u v h in let same : v ≡ w = cc in let i = ih w in
       subst (λ x. (rest : List T) × (u ∷ (f w).asked ≡ (u ∷ (g x).asked) ++ rest)) (sym same) (i.0, ap (λ x. u ∷ x) i.1)
 
+  -- over more a run asks for the same and then perhaps for more
   pub prefix : (K L : T → Option V) → Part K L → (c : Computation T V E O) → (rest : List T)
       × ((over L c).asked ≡ (over K c).asked ++ rest)
   prefix K L p (Gives a) = ([], refl)
@@ -48,6 +49,7 @@ module _ {T V E O : Type 0} where
   last_at u g ih None = ([], refl)
   last_at u g ih (Some v) = ends_more u (g v).asked (g v).answer (ih v)
 
+  -- what a run waits for is the last that it asked for
   pub last : (K : T → Option V) (c : Computation T V E O) → EndsWith (over K c).asked (over K c).answer
   last K (Gives (Value v)) = tt
   last K (Gives (Error e)) = tt
@@ -59,6 +61,7 @@ module _ {T V E O : Type 0} where
   lacks_at K u g ih None h = h
   lacks_at K u g ih (Some v) h = ih v
 
+  -- what a run waits for is not known
   pub lacks : (K : T → Option V) (c : Computation T V E O) → Waits K (over K c).answer
   lacks K (Gives (Value v)) = tt
   lacks K (Gives (Error e)) = tt
@@ -78,6 +81,7 @@ module _ {T V E O : Type 0} where
   asked_at same is K u g t ih (Some v) h m =
       elim (or_cases (same t u) _ m) [ inl q ↦ inl (rw (ap K (is t u q) ∙ h) refl) | inr q ↦ ih v q ]
 
+  -- each task that a run asked for is known, or is what it waits for
   pub asked_known : (same : T → T → Bool) → ((a b : T) → same a b ≡ true → a ≡ b) →
       (K : T → Option V) (c : Computation T V E O) (t : T) → list_any (same t) (over K c).asked ≡ true →
       (is_some (K t) ≡ true) ⊎ ((over K c).answer ≡ Asks t)
@@ -87,6 +91,7 @@ module _ {T V E O : Type 0} where
 
 -- tasks whose runs are trees meet all laws, if names order them and each task that a task asks for is one of them
 module _ {T V E O : Type 0} (same at_most : T → T → Bool) (tasks : List T) (meaning : T → Computation T V E O) where
+  -- tasks whose runs are trees meet all laws, if these hold of their order and of what they ask for
   pub lawful : ((a b : T) → same a b ≡ true → a ≡ b) → ((a : T) → same a a ≡ true) →
       ((a b : T) → at_most a b ≡ false → at_most b a ≡ true) →
       ((a b c : T) → at_most a b ≡ true → at_most b c ≡ true → at_most a c ≡ true) →

@@ -1,9 +1,10 @@
 //! The laws of the rounds, each as the contract of a function that does nothing.
-ghost use Rattle.std.specs.Prelude.{◌≡◌, ◌⊎◌, ◌↔◌, ◌++◌, true, is_some, List, Option, Some};
-ghost use Rattle.by_need.specs.Asking.{Done, Asks};
-ghost use Rattle.by_need.specs.Blame.{blame};
+ghost use Rattle.std.specs.Prelude.{◌≡◌, ◌⊎◌, ◌↔◌, ◌++◌, true, is_some, Bool, List, Option, Some};
+ghost use Rattle.by_need.specs.Asking.{Done, Asks, Otherwise};
+ghost use Rattle.by_need.specs.Blame.{Ended, blame};
 ghost use Rattle.by_need.specs.Laws.{Waits};
 ghost use Rattle.by_need.specs.Rounds.{Part, is_in, is_task, known};
+ghost use Rattle.by_need.specs.Order.{Load};
 
 use crate::Theory;
 
@@ -41,4 +42,19 @@ pub fn known_is_fixed<Y: Theory>(theory: &Y)
 pub fn ring_has_one_blame<Y: Theory>(theory: &Y)
     ensures { let r = Y.rules theory.now in (t u : Y.Task) → is_task r t ≡ true →
         (r.run t (known r)).answer ≡ Asks u → blame r t ≡ blame r u }
+{}
+
+/// Where no task's run ends without a value, an error or a question, no task has such an end for its blame.
+pub fn no_blame_ends_otherwise<Y: Theory>(theory: &Y)
+    ensures { let r = Y.rules theory.now in
+        ((t : Y.Task) (o : Y.Other) → is_task r t ≡ true → (r.run t (known r)).answer ≡ Otherwise o → ⊥) →
+        (t : Y.Task) (o : Y.Other) → is_task r t ≡ true → blame r t ≡ Ended o → ⊥ }
+{}
+
+/// A load of a task over a table defines the same values in the same order, and comes to the same table and end,
+/// however it is done.
+pub fn load_has_one_order<Y: Theory>(theory: &Y)
+    ensures { let r = Y.rules theory.now in (t : Y.Task) (K L M : Y.Task → Option Y.Value)
+        (ds es : List (Y.Task × Y.Value)) (a b : Bool) → Load r K t ds L a → Load r K t es M b →
+        (ds ≡ es) × (L ≡ M) × (a ≡ b) }
 {}

@@ -9,6 +9,7 @@ use Rattle.by_need_graph.specs.Graph.{below, meaning, rules_of, value_at}
 use Rattle.by_need_graph.specs.GraphLaws.{in_below}
 use Rattle.by_need_graph.specs.declared.graph.Body.{Body}
 
+-- no value stands behind the last
 pub value_beyond : (values : List (Option ℕ)) (t : ℕ) → length values ≤ t → value_at values t ≡ None
 value_beyond [] t le = refl
 value_beyond (v ∷ values) zero le = absurd (omega (arith, le))
@@ -23,11 +24,20 @@ value_last : (xs : List (Option ℕ)) (y : Option ℕ) → value_at (xs ++ y ∷
 value_last [] y = refl
 value_last (x ∷ xs) y = value_last xs y
 
+-- no value stands among missing ones
 pub value_none : (n t : ℕ) → value_at (replicate n None) t ≡ None
 value_none zero t = refl
 value_none (suc n) zero = refl
 value_none (suc n) (suc t) = value_none n t
 
+-- values that are all missing are part of whatever is known
+pub nothing_part : (values : List (Option ℕ)) (n : ℕ) (K : ℕ → Option ℕ) → values ≡ replicate n None →
+    Part (value_at values) K
+nothing_part values n K e = record {
+  keeps = λ t v h. let none = ap (λ vs. value_at vs t) e ∙ value_none n t in absurd cc;
+}
+
+-- one value more that is right
 pub value_push : (f : ℕ → Option ℕ) (xs ys : List (Option ℕ)) (y : Option ℕ) (i : ℕ) → ys ≡ xs ++ y ∷ [] →
     length xs ≡ i → y ≡ f i → ((t : ℕ) → t < i → value_at xs t ≡ f t) → (t : ℕ) → t < i + 1 → value_at ys t ≡ f t
 value_push f xs ys y i e l h below t lt =
@@ -38,6 +48,7 @@ value_push f xs ys y i e l h below t lt =
           ∙ value_last xs y ∙ h ∙ ap f i_is
     ]
 
+-- values that agree with all that is found are part of it
 pub part_from : (values found : List (Option ℕ)) (K : ℕ → Option ℕ) (n : ℕ) → length values ≡ n →
     ((t v : ℕ) → t < n → value_at values t ≡ Some v → value_at found t ≡ Some v) →
     ((t : ℕ) → value_at found t ≡ K t) → Part (value_at values) K
@@ -60,6 +71,7 @@ over_same K L h (Gives a) = refl
 over_same K L h (Ask u k) = over_same_at u (λ v. over K (k v)) (λ v. over L (k v)) (λ v. over_same K L h (k v)) (K u)
     ∙ ap (with_value u (λ v. over L (k v))) (h u)
 
+-- what is among the numbers below n is below n
 pub below_in : (n t : ℕ) → list_any (eqb t) (below n) ≡ true → t < n
 below_in zero t h = absurd (false≢true h)
 below_in (suc n) t h = elim (or_cases (eqb t n) _ h) [
@@ -67,11 +79,13 @@ below_in (suc n) t h = elim (or_cases (eqb t n) _ h) [
   | inr e ↦ let lt = below_in n t e in omega (arith, lt)
 ]
 
+-- there are n numbers below n
 pub length-below : (n : ℕ) → length (below n) ≡ n
 length-below zero = refl
 length-below (suc n) = ap suc (length-below n)
 
 module _ (bodies : List Body) where
+  -- one round more of the program is one round more
   pub round_next : (values next : List (Option ℕ)) (k : ℕ) → length values ≡ length bodies →
       ((t : ℕ) → value_at values t ≡ round (rules_of bodies) k t) → length next ≡ length values →
       ((t : ℕ) → t < length values →
@@ -93,6 +107,7 @@ module _ (bodies : List Body) where
                 ∙ sym (value_beyond values t (omega (arith, ge, l))) ∙ h t ∙ rw e refl
           ]
 
+  -- after as many rounds as there are tasks all is known
   pub rounds_end : (values : List (Option ℕ)) (k : ℕ) → k ≡ length bodies →
       ((t : ℕ) → value_at values t ≡ round (rules_of bodies) k t) → (t : ℕ) →
       value_at values t ≡ known (rules_of bodies) t

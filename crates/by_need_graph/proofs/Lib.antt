@@ -1,3 +1,3 @@
-pub mod Machine
+pub mod Questions
 pub mod Facts
 pub mod Ways

@@ -1,5 +1,5 @@
 -- The way that a graph's questions lead, task by task.
-use Rattle.std.proofs.Common.{◌≡◌, ℕ, zero, suc, List, [], ◌∷◌, ◌++◌, length, Option, refl, sym, ap, ◌∙◌}
+use Rattle.std.proofs.Common.{◌≡◌, ℕ, suc, List, [], ◌∷◌, ◌++◌, length, Option, sym, ap, ◌∙◌, arith}
 use Rattle.by_need.specs.Asking.{over}
 use Rattle.by_need.specs.Rounds.{Rules, known}
 use Rattle.by_need.specs.Blame.{asked_by, blame, cause_at, cause_of, circle_of, follow, least_of, next, ring_of, until}
@@ -7,17 +7,13 @@ use Rattle.by_need.specs.Blame.{walk}
 use Rattle.by_need_graph.specs.Graph.{answer_of, meaning, rules_of, value_at}
 use Rattle.by_need_graph.specs.declared.graph.Body.{Body}
 use Rattle.by_need_graph.specs.declared.rounds.Answer.{Answer}
+use Rattle.by_need.proofs.Blames.{walk_add}
 use Rattle.by_need_graph.proofs.Facts.{length-below, over_same}
 
--- one question more
-pub follow_last : {T V E O : Type 0} (r : Rules T V E O) (n : ℕ) (t : T) → follow r (suc n) t ≡ next r (follow r n t)
-follow_last r zero t = refl
-follow_last r (suc n) t = follow_last r n (next r t)
-
+-- the last task of a way
 pub walk_last : {T V E O : Type 0} (r : Rules T V E O) (n : ℕ) (t : T) →
     walk r (suc n) t ≡ walk r n t ++ follow r n t ∷ []
-walk_last r zero t = refl
-walk_last r (suc n) t = ap (λ ts. t ∷ ts) (walk_last r n (next r t))
+walk_last r n t = walk_add r n 1 (suc n) (omega arith) t
 
 module _ (bodies : List Body) (values : List (Option ℕ)) (all : (t : ℕ) →
     value_at values t ≡ known (rules_of bodies) t) where
@@ -25,15 +21,18 @@ module _ (bodies : List Body) (values : List (Option ℕ)) (all : (t : ℕ) →
       ≡ (over (known (rules_of bodies)) (meaning bodies t)).answer
   runs_same t = ap (λ o. o.answer) (over_same (value_at values) (known (rules_of bodies)) all (meaning bodies t))
 
+  -- where a task leads, by the program's answer
   pub next_is : (t : ℕ) (a b : Answer) → answer_of a ≡ (over (value_at values) (meaning bodies t)).answer → a ≡ b →
       asked_by t (answer_of b) ≡ next (rules_of bodies) t
   next_is t a b h is = ap (λ x. asked_by t (answer_of x)) (sym is) ∙ ap (asked_by t) (h ∙ runs_same t)
 
+  -- what stands there, by the program's answer
   pub cause_is : (t : ℕ) (a b : Answer) → answer_of a ≡ (over (value_at values) (meaning bodies t)).answer → a ≡ b →
       cause_at (rules_of bodies) t (answer_of b) ≡ cause_of (rules_of bodies) t
   cause_is t a b h is = ap (λ x. cause_at (rules_of bodies) t (answer_of x)) (sym is)
       ∙ ap (cause_at (rules_of bodies) t) (h ∙ runs_same t)
 
+  -- the blame of a task, by the program's answer where its questions lead
   pub blame_is : (t last : ℕ) (a b : Answer) → last ≡ follow (rules_of bodies) (length bodies) t →
       answer_of a ≡ (over (value_at values) (meaning bodies last)).answer → a ≡ b →
       cause_at (rules_of bodies) last (answer_of b) ≡ blame (rules_of bodies) t

@@ -12,6 +12,7 @@ use Rattle.by_need_graph.specs.declared.graph.Body.{Body}
 use Rattle.by_need_graph.specs.declared.graph.Ending.{Ending}
 use Rattle.by_need_graph.specs.declared.graph.Ending.TheVariants.{Sum, Fail, Stop}
 
+-- a number below n is among them
 pub in_below : (n t : ℕ) → t < n → list_any (eqb t) (below n) ≡ true
 in_below zero t lt = absurd (omega (arith, lt))
 in_below (suc n) t lt = elim (cases_eq t n) [
@@ -60,6 +61,7 @@ chain a b c e f = let le1 = leb-true a b e in let le2 = leb-true b c f in le-leb
 equal : (a b : ℕ) → leb a b ≡ true → leb b a ≡ true → a ≡ b
 equal a b e f = let le1 = leb-true a b e in let le2 = leb-true b a f in omega (arith, le1, le2)
 
+-- graphs that ask for their own tasks alone are lawful
 pub graph_laws : (bodies : List Body) → all_below (length bodies) bodies ≡ true → Lawful (rules_of bodies)
 graph_laws bodies b =
     lawful eqb leb (below (length bodies)) (meaning bodies) eqb-true (λ a. eq-eqb a a refl) total chain

@@ -1,12 +1,12 @@
 //! A load of a graph's task beside the rounds.
-ghost use Rattle.std.specs.Prelude.{◌≡◌, ◌<◌, ℕ, length, true, false, Some, IfOk, IfSome, IsNone};
+ghost use Rattle.std.specs.Prelude.{◌≡◌, ◌≤◌, ◌<◌, ℕ, length, true, false, List, Option, Some, IfOk, IfSome, IsNone};
 ghost use Rattle.by_need.specs.Rounds.{Part, is_task, known};
 ghost use Rattle.by_need_loader.specs.Ends.{Ends};
 ghost use Rattle.by_need_graph.specs.Graph.{rules_of, value_at};
 
 use crate::graph::Graph;
 use crate::program::Values;
-use crate::rounds::{known_values, value_of};
+use crate::rounds::{known_values, no_values, value_of};
 use by_need_loader::{Loaded, load};
 use std::alloc::{AllocError, Global};
 
@@ -66,4 +66,24 @@ pub fn load_beside_rounds(
         return Ok(None);
     }
     Ok(Some(load(alloc, graph, table, task)?))
+}
+
+/// Loads a task over an empty table; None where there is no such task.
+pub fn load_alone(
+    alloc: Global,
+    graph: &Graph,
+    task: u32,
+) -> Result<Option<Loaded<u32, u32, u32>>, AllocError>
+    ensures ends { IfOk result (λ loaded. IfSome loaded (λ end. (table : List (Option ℕ))
+        × Ends (rules_of graph.now.bodies.items) task (value_at table) end)) }
+    ensures refused { IfOk result (λ loaded. IsNone loaded → length graph.now.bodies.items ≤ task) }
+{
+    let count = graph.bodies.len();
+    if task as usize >= count {
+        return Ok(None);
+    }
+    let mut table = Values {
+        values: no_values(alloc, count)?,
+    };
+    Ok(Some(load(alloc, graph, &mut table, task)?))
 }

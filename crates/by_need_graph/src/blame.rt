@@ -2,7 +2,7 @@
 ghost use Rattle.std.specs.Prelude.{◌≡◌, ℕ, List, ◌∷◌, length, IfOk};
 ghost use Rattle.by_need.specs.Blame.{blame, follow, least_of, next, ring_of, until, walk};
 ghost use Rattle.by_need.specs.Rounds.{known};
-ghost use Rattle.by_need_loader.specs.Machine.{cause};
+ghost use Rattle.by_need_loader.specs.Failures.{cause};
 ghost use Rattle.by_need_graph.specs.Graph.{rules_of, value_at};
 ghost use Rattle.by_need_graph.specs.declared.graph.Body.{Body};
 

@@ -1,5 +1,4 @@
-//! Small graphs of tasks: numbers that ask for numbers. What is known of them by rounds over all, as a plain program,
-//! and
+//! Graphs of tasks: numbers that ask for numbers. What is known of them by rounds over all, as a plain program, and
 //! what a loader needs of them.
 #![tactic(auto)]
 
@@ -9,7 +8,7 @@ pub mod graph;
 pub mod program;
 pub mod rounds;
 
-pub use beside::load_beside_rounds;
+pub use beside::{load_alone, load_beside_rounds};
 pub use blame::blame_by_rounds;
 pub use graph::{Body, Ending, Graph};
 pub use program::{Run, Values};

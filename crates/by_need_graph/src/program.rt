@@ -47,21 +47,24 @@ impl Program for Graph {
 
     type Waiting = Run;
 
-    ghost meaning = { λ g t. meaning g.bodies.items t };
+    type Key = u32;
 
-    ghost rest = { λ g run. from (slice_get g.bodies.items run.task) run.sum run.place };
-
-    ghost branch = { λ g run v. from (slice_get g.bodies.items run.task) ((run.sum + v) % 2 ^ 64) run.place };
-
-    fn same(&self, a: &u32, b: &u32) -> bool {
-        *a == *b
-    }
+    ghost runs = { λ g. record {
+      whole = meaning g.bodies.items;
+      rest = λ run. from (slice_get g.bodies.items run.task) run.sum run.place;
+      branch = λ run v. from (slice_get g.bodies.items run.task) ((run.sum + v) % 2 ^ 64) run.place;
+      key = λ t. t;
+    } };
 
     fn at_most(&self, a: &u32, b: &u32) -> bool {
         *a <= *b
     }
 
-    fn copy(&self, task: &u32) -> Result<u32, AllocError> {
+    fn copy_task(task: &u32) -> Result<u32, AllocError> {
+        Ok(*task)
+    }
+
+    fn key_of(&self, task: &u32) -> Result<u32, AllocError> {
         Ok(*task)
     }
 
@@ -94,7 +97,7 @@ impl Program for Graph {
         }
     }
 
-    fn supply(&self, waiting: Run, value: &u64) -> Result<Run, AllocError> {
+    fn supply(waiting: Run, value: &u64) -> Result<Run, AllocError> {
         Ok(Run {
             task: waiting.task,
             place: waiting.place,
@@ -102,7 +105,9 @@ impl Program for Graph {
         })
     }
 
-    ghost runs = { λ g t K. refl };
+    ghost follows = { λ g t K. refl };
+
+    ghost tells_apart = { λ g a b _ _. refl };
 }
 
 /// The values of a graph's tasks.

@@ -1,5 +1,5 @@
 //! What is known of a graph's tasks, by rounds over all of them.
-ghost use Rattle.std.specs.Prelude.{◌≡◌, ◌<◌, ℕ, length, IfOk};
+ghost use Rattle.std.specs.Prelude.{◌≡◌, ◌<◌, ℕ, length, replicate, IfOk, None};
 ghost use Rattle.by_need.specs.Asking.{over};
 ghost use Rattle.by_need.specs.Rounds.{known, value_or};
 ghost use Rattle.by_need_graph.specs.Graph.{answer_of, asks, rules_of, value_at};
@@ -85,6 +85,14 @@ fn next_round(
     Ok(next)
 }
 
+/// No values of as many tasks.
+pub(crate) fn no_values(alloc: Global, count: usize) -> Result<Vec<Option<u64>>, AllocError>
+    ensures { IfOk result (λ values. values.items ≡ replicate count None) }
+{
+    let values = vec![in alloc; None; count]?;
+    Ok(values)
+}
+
 /// The known values of all tasks.
 pub fn known_values(alloc: Global, graph: &Graph) -> Result<Vec<Option<u64>>, AllocError>
     ensures length { IfOk result (λ values. length values.items ≡ length graph.now.bodies.items) }
@@ -92,7 +100,7 @@ pub fn known_values(alloc: Global, graph: &Graph) -> Result<Vec<Option<u64>>, Al
         value_at values.items t ≡ known (rules_of graph.now.bodies.items) t) }
 {
     let count = graph.bodies.len();
-    let mut values = vec![in alloc; None; count]?;
+    let mut values = no_values(alloc, count)?;
     'rounds: for _done in 0..count {
         values = next_round(alloc, graph, &values)?;
     }

@@ -1,5 +1,6 @@
 -- How each call leads a load on.
-use Rattle.std.proofs.Common.{◌≡◌, ℕ, ◌≤◌, ◌<◌, List, [], ◌∷◌, ◌++◌, length, map, slice_get, drop, take, Option, Some, None, Bool}
+use Rattle.std.proofs.Common.{◌≡◌, ℕ, ◌≤◌, ◌<◌, List, [], ◌∷◌, ◌++◌, length, map, slice_get, drop, take, Option, Some}
+use Rattle.std.proofs.Common.{None, Bool}
 use Rattle.std.proofs.Common.{true, false, not, refl, sym, ap, ◌∙◌, subst, arith, append-nil}
 use Rattle.std.proofs.Math.Seq.{take-append_seam}
 use Rattle.std.specs.List.{list_any}
@@ -59,7 +60,8 @@ module _ {T V E O R W N : Type 0} (r : Rules T V E O) (m : Runs T V E O R W N) (
       Says r m h bound (record { tasks = p.tasks; waiting = p.waiting; keys = p.keys; phase = phase.Looks u })
       (step.Look told)
   looked p u told bound w same lt =
-      subst (λ x. Says r m h bound (record { tasks = p.tasks; waiting = p.waiting; keys = p.keys; phase = phase.Looks u })
+      subst (λ x. Says r m h bound
+      (record { tasks = p.tasks; waiting = p.waiting; keys = p.keys; phase = phase.Looks u })
       (step.Look x)) (sym same)
       (record { keyed = w.keyed; tells = (refl, (w.opened, w.before), lt) })
 
@@ -95,13 +97,14 @@ module _ {T V E O R W N : Type 0} (r : Rules T V E O) (m : Runs T V E O R W N) (
         pub runs : Running r m.branch m.rest h.wanted h.at_first h.made h.table p.tasks p.waiting u run
         pub less : left_in r m h p (phase.Runs u run) ≤ bound
 
+      -- a key that was not there is entered for it
       pub enters : (ks : List N) (run : R) (bound : ℕ) → true ≡ not (list_any (eq key) p.keys) →
-          ks ≡ insert_key eq p.keys key → ((L : T → Option V) → r.run u L ≡ over L (m.rest run)) →
+          ks ≡ insert_key eq p.keys key → (is_task r u ≡ true → (L : T → Option V) → r.run u L ≡ over L (m.rest run)) →
           left_in r m h p (phase.Lacks u) ≤ bound → Enters ks run bound
       enters ks run bound new e begun le =
           let out : is_in r u p.tasks ≡ false = sym key_among ∙ not_so (list_any (eq key) p.keys) new in
           let x = entered r m.branch m.rest laws h.wanted h.at_first h.made h.table
-          p.tasks p.waiting u w.opened w.before none out run begun bound le in
+          p.tasks p.waiting u w.opened w.before none out run (begun waited_task) bound le in
           record {
             keyed = e ∙ insert_key-new eq p.keys key (not_so (list_any (eq key) p.keys) new)
                 ∙ ap (λ k. p.keys ++ k ∷ []) is ∙ ap (λ xs. xs ++ m.key u ∷ []) w.keyed
@@ -119,6 +122,7 @@ module _ {T V E O R W N : Type 0} (r : Rules T V E O) (m : Runs T V E O R W N) (
         pub within : place < length p.tasks
         pub there : (x : T) → slice_get p.tasks place ≡ Some x → r.same u x ≡ true
 
+      -- a key that was there shows the place of the task
       pub stands : (ks : List N) (place : ℕ) (k : N) → false ≡ not (list_any (eq key) p.keys) →
           ks ≡ insert_key eq p.keys key → place < length ks → slice_get ks place ≡ Some k → eq key k ≡ true →
           Stands place
@@ -228,7 +232,12 @@ module _ {T V E O R W N : Type 0} (r : Rules T V E O) (m : Runs T V E O R W N) (
   lacked p task found e f none on =
       let x = answered_none r m.branch m.rest laws h.wanted h.at_first h.made h.table p.tasks p.waiting p.phase f.task
       task found f.looks e f.is none on.at in
-      record { ready = tt; on = record { keyed = (waits_at p (phase.Lacks task) task e on).keyed; at = x.1 }; less = x.2 }
+      record {
+        ready = tt;
+        on = record { keyed = (waits_at p (phase.Lacks task) task e on).keyed; at = x.1 };
+        less =
+            x.2;
+      }
 
   -- the table has the task that was looked at
   pub has_it : (p : Progress T R W N) (task : T) (found : Option V) (v : V) → p.phase ≡ phase.Looks task →

@@ -11,11 +11,13 @@ use Rattle.by_need.proofs.Loads.{apart_push, apart_front, apart_last, first_push
 use Rattle.by_need.proofs.Loads.{defines_part, defines_grows}
 use Rattle.by_need_loader.specs.Steps.{Behind, AllBehind, Opened, asks_left}
 
+-- unknown tasks with one more
 pub none_push : {T V : Type 0} (K : T → Option V) (ts : List T) (t : T) → NoneKnown K ts → K t ≡ None →
     NoneKnown K (ts ++ t ∷ [])
 none_push K [] t n h = (h, tt)
 none_push K (x ∷ ts) t n h = (n.0, none_push K ts t n.1 h)
 
+-- the first of unknown tasks
 pub none_at : {T V : Type 0} (K : T → Option V) (ts : List T) (u : T) → NoneKnown K ts → K u ≡ None →
     K (first_or u ts) ≡ None
 none_at K [] u n h = h
@@ -69,6 +71,7 @@ module _ {T V E O W : Type 0} (r : Rules T V E O) (branch : W → V → Computat
   asks_one_more u v k h = rw h (omega arith)
 
   module _ (laws : Lawful r) (wanted : T) (K : T → Option V) where
+    -- with a task that is not open the open tasks are a load of the theory
     pub loading : (ts : List T) (ws : List W) (u : T) → Opened r branch wanted K ts ws u → K u ≡ None →
         is_in r u ts ≡ false → Loading r wanted K ts u
     loading ts ws u o n out = record {
@@ -101,6 +104,7 @@ module _ {T V E O W : Type 0} (r : Rules T V E O) (branch : W → V → Computat
       pub out : is_in r s front ≡ false
       pub waits : Behind r K s (Ask u (branch w))
 
+    -- the open tasks without the latest
     pub popped : (ts front : List T) (ws pile : List W) (s u : T) (w : W) → Opened r branch wanted K ts ws u →
         ts ≡ front ++ s ∷ [] → ws ≡ pile ++ w ∷ [] → Popped front pile s u w
     popped ts front ws pile s u w o e f =
@@ -146,6 +150,7 @@ module _ {T V E O W : Type 0} (r : Rules T V E O) (branch : W → V → Computat
       behind = AllBehind-grow K L (defines_grows r laws K L t v n d) ts ws t o.behind;
     }
 
+    -- no task is open without its run
     pub never_alone : (ts front : List T) (ws : List W) (s u : T) → Opened r branch wanted K ts ws u →
         ts ≡ front ++ s ∷ [] → ws ≡ [] → ⊥
     never_alone ts front ws s u o e f =

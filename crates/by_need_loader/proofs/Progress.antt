@@ -21,17 +21,20 @@ module _ {T V E O W : Type 0} (r : Rules T V E O) (branch : W → V → Computat
       at go None = omega arith
       at go (Some v) = omega arith
 
+  -- a run that waits has a question left
   pub waits_some : (ws : List W) (u : T) → 0 < waits_left r branch ws u
   waits_some [] u = omega arith
   waits_some (w ∷ []) u = some_asks u (branch w)
   waits_some (w ∷ x ∷ ws) u = waits_some (x ∷ ws) u
 
+  -- the latest run that waits
   pub waits_push : (ws : List W) (u : T) (w : W) → waits_left r branch (ws ++ w ∷ []) u ≡ asks_left r (Ask u (branch w))
   waits_push [] u w = refl
   waits_push (x ∷ []) u w = refl
   waits_push (x ∷ y ∷ ws) u w = waits_push (y ∷ ws) u w
 
   module _ (laws : Lawful r) where
+    -- what is left of a run asks no more than the run of its task
     pub few_asks : (K : T → Option V) (t : T) (c : Computation T V E O) → is_task r t ≡ true → Behind r K t c →
         asks_left r c ≤ most_asks r
     few_asks K t c is b =
@@ -39,6 +42,7 @@ module _ {T V E O W : Type 0} (r : Rules T V E O) (branch : W → V → Computat
         let f = b.fewer in
         omega (arith, h, f)
 
+    -- and so does what is left of the latest run that waits
     pub waits_few : (K : T → Option V) (ts : List T) (ws : List W) (t u : T) → AllTasks r (ts ++ t ∷ []) →
         AllBehind r branch K ts ws u → waits_left r branch ws u ≤ most_asks r + 1
     waits_few K [] [] t u h b = omega arith

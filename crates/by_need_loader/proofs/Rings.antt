@@ -1,9 +1,12 @@
 -- The least name of a ring.
-use Rattle.std.proofs.Common.{◌≡◌, ◌<◌, ◌≤◌, ◌+◌, ◌∷◌, [], ℕ, suc, zero, List, length, slice_get, get_or, Option, Some, drop, take}
-use Rattle.std.proofs.Common.{Bool, true, false, inl, inr, refl, sym, ap, ◌∙◌, subst, arith}
+use Rattle.std.proofs.Common.{◌≡◌, ◌<◌, ◌≤◌, ◌+◌, ◌∷◌, [], ℕ, suc, zero, List, length, slice_get, get_or, Option, Some}
+use Rattle.std.proofs.Common.{drop, take}
+use Rattle.std.proofs.Common.{Bool, true, false, inl, inr, sym, ap, ◌∙◌, subst, arith}
 use Rattle.std.proofs.Common.{◌-◌, ◌++◌, length-drop}
 use Rattle.std.proofs.Math.Seq.{take-append_seam}
+use Rattle.std.proofs.lemmas.Option.{slice_get-get_or, slice_get_within}
 use Rattle.std.proofs.lemmas.Bool.{cases_lt}
+use Rattle.by_need.proofs.Blames.{at_most_self}
 use Rattle.by_need.specs.Open.{AllTasks}
 use Rattle.by_need.specs.Rounds.{Rules, is_task}
 use Rattle.by_need.specs.Laws.{Lawful}
@@ -13,11 +16,6 @@ use Rattle.by_need_loader.specs.Ring.{HasLeast}
 abbrev pub LeastBelow : {T : Type 0} → (T → T → Bool) → List T → ℕ → ℕ → Type 0
 LeastBelow {T} at_most ts place n = (m z : T) (k : ℕ) → k < n → slice_get ts place ≡ Some m →
     slice_get ts k ≡ Some z → at_most m z ≡ true
-
-pub get_at : {T : Type 0} (xs : List T) (k : ℕ) (d : T) → k < length xs → slice_get xs k ≡ Some (get_or xs k d)
-get_at [] k d lt = absurd (omega (arith, lt))
-get_at (x ∷ xs) zero d lt = refl
-get_at (x ∷ xs) (suc k) d lt = get_at xs k d (omega (arith, lt))
 
 -- the tasks from a place on are what is left of the turned tasks once the others are cut off
 pub cut_tail : {T : Type 0} (ts turned cut : List T) (n place : ℕ) → n ≡ length ts →
@@ -48,25 +46,20 @@ module _ {T V E O : Type 0} (r : Rules T V E O) (laws : Lawful r) where
   same_some : (a b : T) (o : Option T) → o ≡ Some a → o ≡ Some b → a ≡ b
   same_some a b o p q = cc
 
-  at_most_self : (t : T) → r.at_most t t ≡ true
-  at_most_self t = at (r.at_most t t) refl
-    where
-      at : (b : Bool) → r.at_most t t ≡ b → r.at_most t t ≡ true
-      at true e = e
-      at false e = laws.total t t e
-
+  -- the first of one task is the least
   pub starts_least : (ts : List T) → LeastBelow r.at_most ts 0 1
-  starts_least ts m z zero lt p q = subst (λ x. r.at_most m x ≡ true) (same_some m z _ p q) (at_most_self m)
+  starts_least ts m z zero lt p q = subst (λ x. r.at_most m x ≡ true) (same_some m z _ p q) (at_most_self r laws m)
   starts_least ts m z (suc k) lt p q = absurd (omega (arith, lt))
 
   module _ (ts : List T) (best i : ℕ) (a b : T) (x : Bool) (ea : a ≡ get_or ts best a) (eb : b ≡ get_or ts i b)
       (lb : best < i) (li : i < length ts) (is : x ≡ r.at_most a b) (least : LeastBelow r.at_most ts best i) where
     at_best : slice_get ts best ≡ Some a
-    at_best = get_at ts best a (omega (arith, lb, li)) ∙ ap Some (sym ea)
+    at_best = slice_get-get_or ts best a (omega (arith, lb, li)) ∙ ap Some (sym ea)
 
     at_i : slice_get ts i ≡ Some b
-    at_i = get_at ts i b li ∙ ap Some (sym eb)
+    at_i = slice_get-get_or ts i b li ∙ ap Some (sym eb)
 
+    -- the least so far stays, where it is at most the next
     pub keeps_least : x ≡ true → LeastBelow r.at_most ts best (i + 1)
     keeps_least e m z k lt p q =
         elim (cases_lt k i) [
@@ -78,6 +71,7 @@ module _ {T V E O : Type 0} (r : Rules T V E O) (laws : Lawful r) where
               subst (λ y. r.at_most m y ≡ true) ez (subst (λ y. r.at_most y b ≡ true) em (sym is ∙ e))
         ]
 
+    -- else the next is the least
     pub takes_least : x ≡ false → LeastBelow r.at_most ts i (i + 1)
     takes_least e m z k lt p q =
         let em = same_some b m _ at_i p in
@@ -87,14 +81,11 @@ module _ {T V E O : Type 0} (r : Rules T V E O) (laws : Lawful r) where
           | inr g ↦
               let same : k ≡ i = omega (arith, lt, g) in
               subst (λ y. r.at_most m y ≡ true) (same_some m z _ p (ap (slice_get ts) (omega (arith, lt, g)) ∙ q))
-              (at_most_self m)
+              (at_most_self r laws m)
         ]
 
-some_below : {T : Type 0} (ts : List T) (k : ℕ) (z : T) → slice_get ts k ≡ Some z → k < length ts
-some_below [] k z e = absurd cc
-some_below (t ∷ ts) zero z e = omega arith
-some_below (t ∷ ts) (suc k) z e = omega (arith, some_below ts k z e)
-
+-- the least of all
 pub ends_least : {T : Type 0} (at_most : T → T → Bool) (ts : List T) (best i : ℕ) → length ts ≤ i →
     LeastBelow at_most ts best i → HasLeast at_most ts best
-ends_least at_most ts best i le h = λ m z k p q. let lt = some_below ts k z q in h m z k (omega (arith, lt, le)) p q
+ends_least at_most ts best i le h = λ m z k p q. let lt = slice_get_within ts k z q in
+    h m z k (omega (arith, lt, le)) p q

@@ -16,10 +16,10 @@ use Rattle.by_need.proofs.Tables.{done_known, in_append_left, in_append_right}
 use Rattle.by_need.proofs.Loads.{open_task, open_needed, ends_raised, ends_otherwise, ends_ring, chain_tasks}
 use Rattle.by_need.proofs.Loads.{not_in_append}
 use Rattle.by_need_loader.proofs.Opens.{asks_one_more, loading, pushed, popped, supplied, defined, never_alone}
-use Rattle.by_need_loader.proofs.History.{reverse_push, enters, starts, fails_raised, fails_otherwise, fails_open, ends}
+use Rattle.by_need_loader.proofs.History.{enters, starts, fails_raised, fails_otherwise, fails_open, ends}
 use Rattle.by_need_loader.proofs.History.{goes_back, there}
 use Rattle.by_need_loader.proofs.Progress.{waits_some, waits_push, few_asks, waits_few, less_defined, less_entered}
-use Rattle.by_need_loader.proofs.Rings.{get_at}
+use Rattle.std.proofs.lemmas.Option.{slice_get-get_or}
 use Rattle.by_need_loader.specs.Ring.{IsTurned}
 use Rattle.by_need_loader.specs.Steps.{Behind, Opened, SoFar, Before, Running, IsAt, Tells, todo, asks_left, waits_left}
 use Rattle.by_need_loader.specs.Steps.{wide}
@@ -32,10 +32,12 @@ unsnoc_on : {T : Type 0} (t : T) (ts : List T) → (ts ≡ []) ⊎ ((front : Lis
 unsnoc_on t ts (inl e) = ([], t, ap (λ xs. t ∷ xs) e)
 unsnoc_on t ts (inr i) = (t ∷ i.0, i.1, ap (λ xs. t ∷ xs) i.2)
 
+-- a list is empty, or has a last member
 pub unsnoc : {T : Type 0} (ts : List T) → (ts ≡ []) ⊎ ((front : List T) × (s : T) × (ts ≡ front ++ s ∷ []))
 unsnoc [] = inl refl
 unsnoc (t ∷ ts) = inr (unsnoc_on t ts (unsnoc ts))
 
+-- a look is at one task
 pub looks_same : {T R : Type 0} (phase : Phase T R) (u w : T) → phase ≡ Looks u → phase ≡ Looks w → u ≡ w
 looks_same phase u w p q = cc
 
@@ -77,6 +79,7 @@ module _ {T V E O R W : Type 0} (r : Rules T V E O) (branch : W → V → Comput
       runs_tasks : AllTasks r (ts ++ t ∷ [])
       runs_tasks = chain_tasks r laws ts t K g.opened.part runs.chain (ap (is_task r) runs.start ∙ g.opened.is)
 
+      -- an error is the blame of the wanted task
       pub tells_raised : (x : E) → rest m ≡ Gives (Error x) → (known r wanted ≡ None) × (blame r wanted ≡ Fault x)
           × Load r J wanted made K false
       tells_raised x e =
@@ -84,6 +87,7 @@ module _ {T V E O R W : Type 0} (r : Rules T V E O) (branch : W → V → Comput
           let b = ends_raised r laws wanted g.opened.is K ts t x runs a in
           (b.0, b.1, fails_raised r J wanted (reverse ts) t K made x g.begun g.so_far a)
 
+      -- and so is an end of another kind
       pub tells_otherwise : (o : O) → rest m ≡ Gives (Other o) → (known r wanted ≡ None) × (blame r wanted ≡ Ended o)
           × Load r J wanted made K false
       tells_otherwise o e =
@@ -96,6 +100,7 @@ module _ {T V E O R W : Type 0} (r : Rules T V E O) (branch : W → V → Comput
         value_known : known r t ≡ Some v
         value_known = done_known r laws t K v g.opened.part runs_task (answers (Gives (Value v)) e)
 
+        -- the value of the wanted task is known
         pub tells_last : ts ≡ [] → Tells r branch rest wanted J made K ts ws Loaded bound (step.Define t v)
         tells_last none =
             let is : t ≡ wanted = ap (first_or t) (sym none) ∙ g.opened.start in (
@@ -117,6 +122,7 @@ module _ {T V E O R W : Type 0} (r : Rules T V E O) (branch : W → V → Comput
               ),
             )
 
+        -- the value of a task that others wait for is known
         pub tells_next : (u : T) → u ≡ t → (ts ≡ [] → ⊥) →
             Tells r branch rest wanted J made K ts ws (Asked u) bound (step.Define t v)
         tells_next u same some =
@@ -139,7 +145,7 @@ module _ {T V E O R W : Type 0} (r : Rules T V E O) (branch : W → V → Comput
                 Before r J wanted (reverse ts) L (made ++ (t, v) ∷ [])
             before L d (inl e') = absurd (some e')
             before L d (inr i) =
-                let q : reverse ts ≡ i.1 ∷ reverse i.0 = ap reverse i.2 ∙ reverse_push i.0 i.1 in
+                let q : reverse ts ≡ i.1 ∷ reverse i.0 = ap reverse i.2 ∙ reverse-append i.0 (i.1 ∷ []) in
                 subst (λ os. Before r J wanted os L (made ++ (t, v) ∷ [])) (sym q) (
                   g.begun,
                   goes_back r J wanted (reverse i.0) i.1 t K L made v
@@ -153,13 +159,14 @@ module _ {T V E O R W : Type 0} (r : Rules T V E O) (branch : W → V → Comput
                 (waits_few r branch laws K ts ws t t runs_tasks g.opened.behind) in
                 omega (arith, lt, le)
 
+      -- the run asks, and waits
       pub asks_on : (u : T) (w : W) (more : List T) (pile : List W) → rest m ≡ Ask u (branch w) →
           more ≡ ts ++ t ∷ [] → pile ≡ ws ++ w ∷ [] → Opened r branch wanted K more pile u
           × Before r J wanted (reverse more) K made
           × (todo r branch rest K more pile (Looks u) < todo r branch rest K ts ws (Runs t m))
       asks_on u w more pile e f h = (
         pushed r branch laws wanted K ts more ws pile t u w g.opened g.lacks g.out (subst (Behind r K t) e g.now) f h,
-        subst (λ os. Before r J wanted os K made) (sym (ap reverse f ∙ reverse_push ts t)) (g.begun, g.so_far),
+        subst (λ os. Before r J wanted os K made) (sym (ap reverse f ∙ reverse-append ts (t ∷ []))) (g.begun, g.so_far),
         let a : waits_left r branch pile u ≡ asks_left r (rest m) = ap (λ ys. waits_left r branch ys u) h
             ∙ waits_push r branch ws u w ∙ ap (asks_left r) (sym e) in
             let b : left r K more * wide r ≡ left r K (ts ++ t ∷ []) * wide r = ap (λ xs. left r K xs * wide r) f in
@@ -173,8 +180,7 @@ module _ {T V E O R W : Type 0} (r : Rules T V E O) (branch : W → V → Comput
         enters_now : Behind r K u (rest m)
         enters_now = record {
           same = λ L p. ap (λ x. x.answer) (begun L);
-          fewer =
-              le_of_eq (ap (λ x. length x.asked) (sym (begun (known r))));
+          fewer = le_of_eq (ap (λ x. length x.asked) (sym (begun (known r))));
         }
 
         history : (ts ≡ []) ⊎ ((front : List T) × (s : T) × (ts ≡ front ++ s ∷ [])) → (J wanted ≡ None)
@@ -193,7 +199,7 @@ module _ {T V E O R W : Type 0} (r : Rules T V E O) (branch : W → V → Comput
                 × SoFar r J wanted (reverse ts) u K made
             last (inl e) = absurd (never_alone r branch laws wanted K ts i.0 ws i.1 u o i.2 e)
             last (inr j) =
-                let q : reverse ts ≡ i.1 ∷ reverse i.0 = ap reverse i.2 ∙ reverse_push i.0 i.1 in
+                let q : reverse ts ≡ i.1 ∷ reverse i.0 = ap reverse i.2 ∙ reverse-append i.0 (i.1 ∷ []) in
                 let p = subst (λ os. Before r J wanted os K made) q b in
                 let l = popped r branch laws wanted K ts i.0 ws j.0 i.1 u j.1 o i.2 j.2 in
                 let a : (r.run i.1 K).answer ≡ Asks u = l.waits.same K (Part-refl K) ∙ rw n refl in (
@@ -203,6 +209,7 @@ module _ {T V E O R W : Type 0} (r : Rules T V E O) (branch : W → V → Comput
                       (subst (λ os. is_in r u os ≡ false) q (in_reverse u ts false out)) p.1),
                 )
 
+        -- the run of a task that the table lacks begins
         pub entered : (bound : ℕ) → todo r branch rest K ts ws (Lacks u) ≤ bound →
             Running r branch rest wanted J made K ts ws u m × (todo r branch rest K ts ws (Runs u m) ≤ bound)
         entered bound le =
@@ -214,6 +221,7 @@ module _ {T V E O R W : Type 0} (r : Rules T V E O) (branch : W → V → Comput
               omega (arith, lt, le),
             )
 
+      -- the ring is the blame of the wanted task
       pub tells_ring : (place : ℕ) (ring : List T) → place < length ts →
           ((x : T) → slice_get ts place ≡ Some x → r.same u x ≡ true) → IsTurned r.at_most (drop place ts) ring →
           (known r wanted ≡ None) × (blame r wanted ≡ Circle ring) × Load r J wanted made K false
@@ -234,8 +242,9 @@ module _ {T V E O R W : Type 0} (r : Rules T V E O) (branch : W → V → Comput
               let a : (r.run i.1 K).answer ≡ Asks u = l.waits.same K (Part-refl K) ∙ rw n refl in
               let d = ends_ring r laws wanted o.is K i.0 i.1 u c.0 c.2 q.place
               (loading r branch laws wanted K i.0 j.0 i.1 l.opened l.lacks l.out) a (sym i.2 ∙ split) q.within
-              (λ k w. q.least _ _ k (get_at (u ∷ c.2) q.place u q.within) (get_at (u ∷ c.2) k u w)) in
-              let e : reverse ts ≡ i.1 ∷ reverse i.0 = ap reverse i.2 ∙ reverse_push i.0 i.1 in
+              (λ k w. q.least _ _ k (slice_get-get_or (u ∷ c.2) q.place u q.within)
+              (slice_get-get_or (u ∷ c.2) k u w)) in
+              let e : reverse ts ≡ i.1 ∷ reverse i.0 = ap reverse i.2 ∙ reverse-append i.0 (i.1 ∷ []) in
               let p = subst (λ os. Before r J wanted os K made) e b in
               let here : is_in r u ts ≡ true = subst (λ xs. is_in r u xs ≡ true) (sym split)
               (in_append_right r laws u c.0 (u ∷ c.2) (or_left (r.same u u) _ (laws.same_self u))) in (
@@ -248,6 +257,7 @@ module _ {T V E O R W : Type 0} (r : Rules T V E O) (branch : W → V → Comput
     -- a value that is there
     module _ (u : T) (v : V) (o : Opened r branch wanted K ts ws u) (b : Before r J wanted (reverse ts) K made)
         (h : K u ≡ Some v) where
+      -- where no task is open the wanted one is loaded
       pub resumes_none : ts ≡ [] → IsAt r branch rest wanted J made K ts ws Loaded
           × (0 < todo r branch rest K ts ws (Looks u))
       resumes_none e =
@@ -257,12 +267,13 @@ module _ {T V E O R W : Type 0} (r : Rules T V E O) (branch : W → V → Comput
           let some = waits_some r branch ws u in
           ((v, o.part.keeps wanted v k, k, there r J wanted v K made p.0 p.1 k), omega (arith, some))
 
+      -- the latest open task goes on with the value
       pub resumes_some : (front : List T) (pile : List W) (s : T) (w : W) (m : R) → ts ≡ front ++ s ∷ [] →
           ws ≡ pile ++ w ∷ [] → rest m ≡ branch w v → Running r branch rest wanted J made K front pile s m
           × (todo r branch rest K front pile (Runs s m) < todo r branch rest K ts ws (Looks u))
       resumes_some front pile s w m e f g =
           let l = popped r branch laws wanted K ts front ws pile s u w o e f in
-          let p = subst (λ os. Before r J wanted os K made) (ap reverse e ∙ reverse_push front s) b in
+          let p = subst (λ os. Before r J wanted os K made) (ap reverse e ∙ reverse-append front (s ∷ [])) b in
           let one = asks_one_more r branch u v (branch w) (o.part.keeps u v h) in
           let a : waits_left r branch ws u ≡ asks_left r (Ask u (branch w)) = ap (λ ys. waits_left r branch ys u) f
           ∙ waits_push r branch pile u w in
@@ -294,20 +305,3 @@ module _ {T V E O R W : Type 0} (r : Rules T V E O) (branch : W → V → Comput
           (o.0, o.1, ap K (sym same) ∙ sym f ∙ n),
           subst (λ x. todo r branch rest K ts ws (Lacks task) < todo r branch rest K ts ws x) (sym q) lt,
         )
-
-    pub record Found (task : T) (v : V) : Type 0 where
-      pub is : K task ≡ Some v
-      pub opened : Opened r branch wanted K ts ws task
-      pub before : Before r J wanted (reverse ts) K made
-
-    pub answered_some : (phase : Phase T R) (u task : T) (found : Option V) (v : V) → phase ≡ Looks u →
-        phase ≡ Looks task → found ≡ K u → found ≡ Some v → IsAt r branch rest wanted J made K ts ws phase →
-        Found task v
-    answered_some phase u task found v p q f n h =
-        let same : u ≡ task = looks_same phase u task p q in
-        let o = rw q at h in
-        record { is = ap K (sym same) ∙ sym f ∙ n; opened = o.0; before = o.1 }
-
-    pub bound_of : (phase : Phase T R) (task : T) (n : ℕ) → phase ≡ Looks task →
-        n < todo r branch rest K ts ws (Looks task) → n < todo r branch rest K ts ws phase
-    bound_of phase task n q lt = subst (λ x. n < todo r branch rest K ts ws x) (sym q) lt

@@ -13,6 +13,7 @@ abbrev pub Ends : {T V E O : Type 0} → Rules T V E O → T → (T → Option V
 Ends {T} {V} r task K Done = (v : V) × (known r task ≡ Some v) × (K task ≡ Some v)
 Ends r task K (Failed failure) = (known r task ≡ None) × (blame r task ≡ cause failure)
 
+-- Whether a load is done.
 abbrev pub is_done : {T E O : Type 0} → Loaded T E O → Bool
 is_done Done = true
 is_done (Failed failure) = false

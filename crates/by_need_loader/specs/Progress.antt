@@ -2,7 +2,7 @@
 use Rattle.std.specs.Prelude.{◌≡◌, ◌<◌, ℕ, List, [], ◌∷◌, ◌++◌, Option, map, reverse}
 use Rattle.by_need.specs.Rounds.{Rules}
 use Rattle.by_need_loader.specs.Runs.{Runs}
-use Rattle.by_need_loader.specs.Steps.{Before, IsAt, IsReady, Opened, Tells, todo}
+use Rattle.by_need_loader.specs.Steps.{Before, IsAt, IsReady, Opened, Running, Tells, todo}
 use Rattle.by_need_loader.specs.declared.loader.Phase.{Phase}
 use Rattle.by_need_loader.specs.declared.loader.Phase.TheVariants as phase
 use Rattle.by_need_loader.specs.declared.loader.LoadStep.{LoadStep}
@@ -83,6 +83,11 @@ module _ {T V E O R W N : Type 0} (r : Rules T V E O) (m : Runs T V E O R W N) (
     pub task : T
     pub looks : p.phase ≡ phase.Looks task
     pub is : found ≡ h.table task
+
+  -- The task t runs, and the keys are those of the open tasks and of t.
+  pub record HasRunning (p : Progress T R W N) (t : T) (run : R) : Type 0 where
+    pub keyed : p.keys ≡ map m.key (p.tasks ++ t ∷ [])
+    pub running : Running r m.branch m.rest h.wanted h.at_first h.made h.table p.tasks p.waiting t run
 
   -- What a step tells, where less than the bound is left to do.
   pub record Says (bound : ℕ) (p : Progress T R W N) (told : LoadStep T V E O) : Type 0 where

@@ -1,8 +1,8 @@
 //! A load of a task, step by step. Its caller has the table.
-ghost use Rattle.std.specs.Prelude.{◌≡◌, ◌≤◌, ◌<◌, ℕ, IfOk, Some, None, map, ◌∷◌, ◌++◌, [], option_copied};
-ghost use Rattle.by_need_loader.specs.Steps.{IsReady, Running};
-ghost use Rattle.by_need_loader.specs.Progress.{History, IsOn, Finds, WentOn, Says, WaitsFor, begun, left_in};
-ghost use Rattle.by_need_loader.specs.Progress.{Resumed, left_to_do};
+ghost use Rattle.std.specs.Prelude.{◌≡◌, ◌≤◌, ◌<◌, ℕ, IfOk, Some, None, option_copied};
+ghost use Rattle.by_need_loader.specs.Steps.{IsReady};
+ghost use Rattle.by_need_loader.specs.Progress.{History, IsOn, Finds, WentOn, Says, WaitsFor, HasRunning, Resumed};
+ghost use Rattle.by_need_loader.specs.Progress.{begun, left_in, left_to_do};
 
 use crate::program::{Next, Program};
 use crate::ring::ring_from;
@@ -48,7 +48,8 @@ pub enum Phase<T, R> {
     Over,
 }
 
-fn set<T: Drop, R: Drop>(phase: &mut Phase<T, R>, next: Phase<T, R>)
+/// Puts another phase in the place of one.
+fn set_phase<T: Drop, R: Drop>(phase: &mut Phase<T, R>, next: Phase<T, R>)
     ensures { phase.new ≡ next }
 {
     *phase = next;
@@ -70,10 +71,10 @@ impl<Y: Program> Model for Loader<Y> {
     ghost Value = { Progress Y.Task Y.Running Y.Waiting Y.Key };
 
     ghost view = { λ l. record {
-        tasks = l.tasks.items;
-        waiting = l.waiting.items;
-        keys = l.keys.keys;
-        phase = l.phase;
+      tasks = l.tasks.items;
+      waiting = l.waiting.items;
+      keys = l.keys.keys;
+      phase = l.phase;
     } };
 }
 
@@ -93,15 +94,15 @@ impl<Y: Program> Loader<Y> {
     /// The table's answer to the last step, which was a look.
     pub fn answer(&mut self, found: Option<&Y::Value>) -> Result<(), AllocError>
         ensures { IfOk result (λ _. (s : Y) (h : History Y.Task Y.Value) →
-            Finds (Y.rules s) (Y.runs s) h self.old (option_copied found.entry) → IsOn (Y.rules s) (Y.runs s) h self.old →
-            WentOn (Y.rules s) (Y.runs s) h self.old self.new) }
+            Finds (Y.rules s) (Y.runs s) h self.old (option_copied found.entry) →
+            IsOn (Y.rules s) (Y.runs s) h self.old → WentOn (Y.rules s) (Y.runs s) h self.old self.new) }
     {
         match mem::replace(&mut self.phase, Phase::Over) {
             Phase::Looks(task) => match found {
-                None => set(&mut self.phase, Phase::Lacks(task)),
+                None => set_phase(&mut self.phase, Phase::Lacks(task)),
                 Some(value) => self.resume(value)?,
             },
-            phase => set(&mut self.phase, phase),
+            phase => set_phase(&mut self.phase, phase),
         }
         Ok(())
     }
@@ -109,7 +110,6 @@ impl<Y: Program> Loader<Y> {
     /// The next step. Before it a look is answered, and a define is done in the table.
     pub fn step(
         &mut self,
-        alloc: Global,
         theory: &Y,
     ) -> Result<LoadStep<Y::Task, Y::Value, Y::Error, Y::Other>, AllocError>
         ensures { let r = Y.rules theory.now in let m = Y.runs theory.now in
@@ -119,10 +119,10 @@ impl<Y: Program> Loader<Y> {
         match mem::replace(&mut self.phase, Phase::Over) {
             Phase::Asked(task) => self.look(task),
             Phase::Looks(task) => self.look(task),
-            Phase::Lacks(task) => self.enter(alloc, theory, task),
+            Phase::Lacks(task) => self.enter(theory, task),
             Phase::Runs(task, running) => self.go_on(theory, task, running),
             Phase::Loaded => {
-                set(&mut self.phase, Phase::Loaded);
+                set_phase(&mut self.phase, Phase::Loaded);
                 Ok(LoadStep::Done)
             }
             Phase::Over => Err(AllocError),
@@ -136,11 +136,11 @@ impl<Y: Program> Loader<Y> {
             Resumed (Y.rules s) (Y.runs s) h self.old self.new u) }
     {
         match self.tasks.pop() {
-            None => set(&mut self.phase, Phase::Loaded),
+            None => set_phase(&mut self.phase, Phase::Loaded),
             Some(task) => {
                 if let Some(waiting) = self.waiting.pop() {
                     let running = Y::supply(waiting, value)?;
-                    set(&mut self.phase, Phase::Runs(task, running));
+                    set_phase(&mut self.phase, Phase::Runs(task, running));
                 }
             }
         }
@@ -157,15 +157,14 @@ impl<Y: Program> Loader<Y> {
             left_in (Y.rules s) (Y.runs s) h self.old (Phase.Looks task) < bound →
             Says (Y.rules s) (Y.runs s) h bound self.new told) }
     {
-        let told = Y::copy(&task)?;
-        set(&mut self.phase, Phase::Looks(task));
+        let told = Y::copy_task(&task)?;
+        set_phase(&mut self.phase, Phase::Looks(task));
         Ok(LoadStep::Look(told))
     }
 
     /// Begins the run of a task that the table lacks, or names the ring that it closes.
     fn enter(
         &mut self,
-        alloc: Global,
         theory: &Y,
         task: Y::Task,
     ) -> Result<LoadStep<Y::Task, Y::Value, Y::Error, Y::Other>, AllocError>
@@ -174,7 +173,7 @@ impl<Y: Program> Loader<Y> {
             h.table task ≡ None → left_in r m h self.old (Phase.Lacks task) ≤ bound →
             Says r m h bound self.new told) }
     {
-        let key = theory.key(&task)?;
+        let key = theory.key_of(&task)?;
         match self.keys.insert_full(key) {
             Err(_) => Err(AllocError),
             Ok((_, true)) => {
@@ -182,7 +181,8 @@ impl<Y: Program> Loader<Y> {
                 self.go_on(theory, task, running)
             }
             Ok((place, false)) => {
-                let tasks = mem::replace(&mut self.tasks, Vec::new(alloc));
+                let none = Vec::new(*self.tasks.allocator());
+                let tasks = mem::replace(&mut self.tasks, none);
                 Ok(LoadStep::Failed(Failure::Circle(ring_from(theory, tasks, place))))
             }
         }
@@ -196,20 +196,18 @@ impl<Y: Program> Loader<Y> {
         running: Y::Running,
     ) -> Result<LoadStep<Y::Task, Y::Value, Y::Error, Y::Other>, AllocError>
         ensures { let r = Y.rules theory.now in let m = Y.runs theory.now in
-            IfOk result (λ told. (h : History Y.Task Y.Value) (bound : ℕ) →
-            self.old.keys ≡ map m.key (self.old.tasks ++ task ∷ []) →
-            Running r m.branch m.rest h.wanted h.at_first h.made h.table self.old.tasks self.old.waiting task running →
+            IfOk result (λ told. (h : History Y.Task Y.Value) (bound : ℕ) → HasRunning r m h self.old task running →
             left_in r m h self.old (Phase.Runs task running) ≤ bound → Says r m h bound self.new told) }
     {
         match theory.run(running)? {
             Next::Done(value) => {
                 self.keys.truncate(self.tasks.len());
                 if self.tasks.is_empty() {
-                    set(&mut self.phase, Phase::Loaded);
+                    set_phase(&mut self.phase, Phase::Loaded);
                     return Ok(LoadStep::Define(task, value));
                 }
-                let asked = Y::copy(&task)?;
-                set(&mut self.phase, Phase::Asked(asked));
+                let asked = Y::copy_task(&task)?;
+                set_phase(&mut self.phase, Phase::Asked(asked));
                 Ok(LoadStep::Define(task, value))
             }
             Next::Raised(error) => Ok(LoadStep::Failed(Failure::Raised(error))),

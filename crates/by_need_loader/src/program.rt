@@ -35,14 +35,15 @@ pub trait Program: Theory {
         ensures { let r = Self.rules self.now in is_task r a.now ≡ true → is_task r b.now ≡ true →
             result ≡ r.at_most a.now b.now };
 
-    fn copy(task: &Self::Task) -> Result<Self::Task, AllocError>
+    fn copy_task(task: &Self::Task) -> Result<Self::Task, AllocError>
         ensures { IfOk result (λ copied. copied ≡ task.now) };
 
-    fn key(&self, task: &Self::Task) -> Result<Self::Key, AllocError>
+    fn key_of(&self, task: &Self::Task) -> Result<Self::Key, AllocError>
         ensures { IfOk result (λ key. key ≡ (runs self.now).key task.now) };
 
     fn begin(&self, task: &Self::Task) -> Result<Self::Running, AllocError>
-        ensures { IfOk result (λ running. (runs self.now).rest running ≡ (runs self.now).whole task.now) };
+        ensures { IfOk result (λ running. is_task (Self.rules self.now) task.now ≡ true →
+            (runs self.now).rest running ≡ (runs self.now).whole task.now) };
 
     /// Goes on to the end or to the next question.
     fn run(
@@ -52,10 +53,7 @@ pub trait Program: Theory {
         ensures { IfOk result (Reaches (runs self.now).branch ((runs self.now).rest running)) };
 
     /// Takes the branch of the value that the run waits for, whichever program the run is of.
-    fn supply(
-        waiting: Self::Waiting,
-        value: &Self::Value,
-    ) -> Result<Self::Running, AllocError>
+    fn supply(waiting: Self::Waiting, value: &Self::Value) -> Result<Self::Running, AllocError>
         ensures { IfOk result (λ running. (s : Self) → (runs s).rest running ≡ (runs s).branch waiting value.now) };
 
     /// A run over what is known follows the tree of its task.

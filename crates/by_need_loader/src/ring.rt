@@ -22,7 +22,7 @@ fn least_place<Y: Program>(theory: &Y, tasks: &[Y::Task]) -> usize
 }
 
 /// The tasks of a ring, turned so that the least comes first.
-fn turned<Y: Program>(theory: &Y, mut ring: Vec<Y::Task>) -> Vec<Y::Task>
+fn from_least<Y: Program>(theory: &Y, mut ring: Vec<Y::Task>) -> Vec<Y::Task>
     requires { 0 < length ring.items }
     ensures { AllTasks (Y.rules theory.now) ring.items →
         IsTurned (Y.rules theory.now).at_most ring.items result.items }
@@ -43,5 +43,5 @@ pub fn ring_from<Y: Program>(theory: &Y, mut tasks: Vec<Y::Task>, place: usize) 
     let length = tasks.len() - place;
     tasks.rotate_left(place);
     tasks.truncate(length);
-    turned(theory, tasks)
+    from_least(theory, tasks)
 }

@@ -34,7 +34,7 @@ pub fn load<Y: Program, B: Table<Y::Task, Y::Value>>(
 {
     let mut loader: Loader<Y> = Loader::begin(alloc, task);
     'steps: loop {
-        match loader.step(alloc, theory)? {
+        match loader.step(theory)? {
             LoadStep::Look(asked) => loader.answer(table.defined(&asked))?,
             LoadStep::Define(done, value) => table.define(done, value)?,
             LoadStep::Done => return Ok(Loaded::Done),

@@ -1,8 +1,8 @@
-//! Loads beside the rounds, from every part of what is known as table: all graphs of up to four tasks with up to two
-//! questions
-//! each, where each task ends by a value, an error or an end of the other kind.
+//! Loads beside the rounds, from every part of what is known as table: all graphs of up to three tasks with up to two
+//! questions each, where each task ends by a value, an error or an end of the other kind. And loads that nest deep.
 use by_need_graph::rounds::Answer;
-use by_need_graph::{Body, Ending, Graph, Values, known_values, load_beside_rounds, run_task};
+use by_need_graph::{Body, Ending, Graph, Values};
+use by_need_graph::{known_values, load_alone, load_beside_rounds, run_task};
 use by_need_loader::{Failure, Loaded};
 use std::alloc::{AllocError, Global};
 use std::test::Fail;
@@ -67,15 +67,15 @@ fn is_ring(graph: &Graph, known: &[Option<u64>], ring: &[u32], on: u32) -> bool 
         least = least.min(last);
     }
     let mut wanted = least;
-    let mut is_turned = false;
+    let mut is_round = false;
     for task in ring {
-        if is_turned || *task != wanted {
+        if is_round || *task != wanted {
             return false;
         }
         wanted = asked_by(graph, known, wanted);
-        is_turned = wanted == least;
+        is_round = wanted == least;
     }
-    is_turned
+    is_round
 }
 
 /// Whether a failure is what the questions of an unknown task lead to: four end, or are on a ring.
@@ -194,66 +194,6 @@ fn every_graph_of_three_tasks(rt: HostRuntime) -> Result<(), Fail> {
     Ok(())
 }
 
-/// A ninth of the 63⁴ graphs of four tasks: those whose last body is one of seven of the 63.
-fn ninth_agrees(alloc: Global, part: u32) -> Result<bool, AllocError> {
-    let from = part.wrapping_mul(1_750_329);
-    Ok(agreeing(alloc, 4, from, from.wrapping_add(1_750_329))? == 1_750_329)
-}
-
-#[test]
-fn every_graph_of_four_tasks_the_first_ninth(rt: HostRuntime) -> Result<(), Fail> {
-    assert!(rt; ninth_agrees(rt.alloc(), 0)?);
-    Ok(())
-}
-
-#[test]
-fn every_graph_of_four_tasks_the_second_ninth(rt: HostRuntime) -> Result<(), Fail> {
-    assert!(rt; ninth_agrees(rt.alloc(), 1)?);
-    Ok(())
-}
-
-#[test]
-fn every_graph_of_four_tasks_the_third_ninth(rt: HostRuntime) -> Result<(), Fail> {
-    assert!(rt; ninth_agrees(rt.alloc(), 2)?);
-    Ok(())
-}
-
-#[test]
-fn every_graph_of_four_tasks_the_fourth_ninth(rt: HostRuntime) -> Result<(), Fail> {
-    assert!(rt; ninth_agrees(rt.alloc(), 3)?);
-    Ok(())
-}
-
-#[test]
-fn every_graph_of_four_tasks_the_fifth_ninth(rt: HostRuntime) -> Result<(), Fail> {
-    assert!(rt; ninth_agrees(rt.alloc(), 4)?);
-    Ok(())
-}
-
-#[test]
-fn every_graph_of_four_tasks_the_sixth_ninth(rt: HostRuntime) -> Result<(), Fail> {
-    assert!(rt; ninth_agrees(rt.alloc(), 5)?);
-    Ok(())
-}
-
-#[test]
-fn every_graph_of_four_tasks_the_seventh_ninth(rt: HostRuntime) -> Result<(), Fail> {
-    assert!(rt; ninth_agrees(rt.alloc(), 6)?);
-    Ok(())
-}
-
-#[test]
-fn every_graph_of_four_tasks_the_eighth_ninth(rt: HostRuntime) -> Result<(), Fail> {
-    assert!(rt; ninth_agrees(rt.alloc(), 7)?);
-    Ok(())
-}
-
-#[test]
-fn every_graph_of_four_tasks_the_last_ninth(rt: HostRuntime) -> Result<(), Fail> {
-    assert!(rt; ninth_agrees(rt.alloc(), 8)?);
-    Ok(())
-}
-
 #[test]
 fn a_ring_behind_a_tail_is_named_from_its_least(rt: HostRuntime) -> Result<(), Fail> {
     // 0 asks for 4 and 3, 3 for 4 and 2, 2 for 1, 1 for 3, and 4 is done
@@ -297,5 +237,59 @@ fn a_ring_behind_a_tail_is_named_from_its_least(rt: HostRuntime) -> Result<(), F
         table.values.as_slice(),
         [None, None, None, None, Some(1)].as_slice()
     );
+    Ok(())
+}
+
+/// A graph in which each task asks for the next one, and the last one for a task, if any.
+fn chain(alloc: Global, length: u32, last: Option<u32>) -> Result<Option<Graph>, AllocError> {
+    let mut bodies = Vec::new(alloc);
+    for task in 0..length {
+        let mut questions = Vec::new(alloc);
+        let next = task.wrapping_add(1);
+        if next < length {
+            questions.push(next)?;
+        } else if let Some(asked) = last {
+            questions.push(asked)?;
+        }
+        let ending = Ending::Sum;
+        bodies.push(Body { questions, ending })?;
+    }
+    Ok(Graph::new(bodies))
+}
+
+#[test]
+fn a_chain_of_100_000_tasks_is_loaded(rt: HostRuntime) -> Result<(), Fail> {
+    let alloc = rt.alloc();
+    let Some(graph) = chain(alloc, 100_000, None)? else {
+        assert!(rt; false);
+        return Ok(());
+    };
+    match load_alone(alloc, &graph, 0)? {
+        Some(Loaded::Done) => {}
+        _ => assert!(rt; false),
+    }
+    Ok(())
+}
+
+#[test]
+fn a_ring_at_the_end_of_100_000_tasks_is_found(rt: HostRuntime) -> Result<(), Fail> {
+    // the ring is entered at its greatest task but one, so that it is turned
+    let alloc = rt.alloc();
+    let Some(graph) = chain(alloc, 100_000, Some(99_000))? else {
+        assert!(rt; false);
+        return Ok(());
+    };
+    match load_alone(alloc, &graph, 99_998)? {
+        Some(Loaded::Failed(Failure::Circle(ring))) => {
+            assert_eq!(rt; ring.len(), 1_000);
+            assert_eq!(rt; ring.first().copied(), Some(99_000));
+            assert_eq!(rt; ring.last().copied(), Some(99_999));
+        }
+        _ => assert!(rt; false),
+    }
+    match load_alone(alloc, &graph, 0)? {
+        Some(Loaded::Failed(Failure::Circle(ring))) => assert_eq!(rt; ring.len(), 1_000),
+        _ => assert!(rt; false),
+    }
     Ok(())
 }

@@ -9,4 +9,4 @@ returns g c =
     let ts = c.args.tasks.items in
     let cut = cut_tail ts _ _ c.len-2.result c.args.place (c.len-2.ensures ∙ c.args.tasks.ok.0)
     c.rotate_left.ensures.items c.truncate.ensures.items in
-    λ lt all. rw cut at (c.turned.ensures (subst (AllTasks r) (sym cut) (tasks_from r ts c.args.place all)))
+    λ lt all. rw cut at (c.from_least.ensures (subst (AllTasks r) (sym cut) (tasks_from r ts c.args.place all)))

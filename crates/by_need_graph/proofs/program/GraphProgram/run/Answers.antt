@@ -1,6 +1,6 @@
 use Rattle.std.proofs.Common.{◌≡◌, slice_get, Some, None, option_copied, sym, ap, ◌∙◌}
 use Rattle.by_need_graph.specs.Graph.{ends}
-use Rattle.by_need_graph.proofs.Machine.{run_asks, run_ends}
+use Rattle.by_need_graph.proofs.Questions.{run_asks, run_ends}
 use Rattle.by_need_graph.proofs.program.GraphProgram.run.Goals as goal
 
 pub returns-in-Some-question_at : goal.returns-in-Some-question_at

@@ -4,7 +4,7 @@ use Rattle.by_need_loader.proofs.loader.Loader.answer.Goals as goal
 
 pub returns-in-None : goal.returns-in-None
 returns-in-None g c =
-    rw (c.set.ensures, ← c.self.view_is)
+    rw (c.set_phase.ensures, ← c.self.view_is)
     (λ s h f on. lacked (g.Y.Theory.rules s) (g.Y.Program.runs s) (g.Y.Theory.laws s) h _ c.in-Looks.task _
     (sym c.replace.ensures.value ∙ c.in-Looks.is) f (ap option_copied c.in-None.is) on)
 

@@ -1,19 +1,20 @@
 use Rattle.std.proofs.Common.{lt_of_lt_of_le, ◌∙◌}
+use Rattle.std.proofs.lemmas.Result.{IfOk-weaker}
 use Rattle.by_need_loader.specs.Progress.{Progress}
-use Rattle.by_need_loader.proofs.Lists.{empty_when, full_when, if_ok}
+use Rattle.by_need_loader.proofs.Lists.{empty_when, full_when}
 use Rattle.by_need_loader.proofs.Goes.{says_raised, says_otherwise, keys_left, says_last, says_next, asked}
 use Rattle.by_need_loader.proofs.loader.Loader.go_on.Goals as goal
 
 pub returns-in-Raised : goal.returns-in-Raised
 returns-in-Raised g c =
-    λ h bound keyed runs le. says_raised (g.Y.Theory.rules c.args.theory.now) (g.Y.Program.runs c.args.theory.now)
-    (g.Y.Theory.laws c.args.theory.now) h c.args.self.now c.args.task c.args.running keyed runs _ bound
+    λ h bound now le. says_raised (g.Y.Theory.rules c.args.theory.now) (g.Y.Program.runs c.args.theory.now)
+    (g.Y.Theory.laws c.args.theory.now) h c.args.self.now c.args.task c.args.running now.keyed now.running _ bound
     c.in-Raised.error (rw c.in-Raised.is at c.in_ok-value.ensures)
 
 pub returns-in-Otherwise : goal.returns-in-Otherwise
 returns-in-Otherwise g c =
-    λ h bound keyed runs le. says_otherwise (g.Y.Theory.rules c.args.theory.now) (g.Y.Program.runs c.args.theory.now)
-    (g.Y.Theory.laws c.args.theory.now) h c.args.self.now c.args.task c.args.running keyed runs _ bound
+    λ h bound now le. says_otherwise (g.Y.Theory.rules c.args.theory.now) (g.Y.Program.runs c.args.theory.now)
+    (g.Y.Theory.laws c.args.theory.now) h c.args.self.now c.args.task c.args.running now.keyed now.running _ bound
     c.in-Otherwise.end (rw c.in-Otherwise.is at c.in_ok-value.ensures)
 
 pub returns-then-is_empty : goal.returns-then-is_empty
@@ -28,11 +29,11 @@ returns-then-is_empty g c =
       keys = i.keys.keys;
       phase = i.phase;
     } in
-    rw (c.set.ensures, ← c.self.view_is)
-    (λ h bound keyed runs le.
-    let left = keys_left r m laws h p c.args.task c.args.running keyed runs _ c.len.result
+    rw (c.set_phase.ensures, ← c.self.view_is)
+    (λ h bound now le.
+    let left = keys_left r m laws h p c.args.task c.args.running now.keyed now.running _ c.len.result
     (c.len.ensures ∙ c.self.inside.tasks.ok.0) c.truncate.ensures.keys in
-    says_last r m laws h p c.args.task c.args.running keyed runs c.in-Done.value bound
+    says_last r m laws h p c.args.task c.args.running now.keyed now.running c.in-Done.value bound
     (rw c.in-Done.is at c.in_ok-value.ensures) le _ left
     (empty_when _ _ _ c.self.inside.tasks.ok.0 c.is_empty.ensures c.if-is_empty.true))
 
@@ -48,11 +49,11 @@ returns-in_ok-asked-in-Done g c =
       keys = i.keys.keys;
       phase = i.phase;
     } in
-    rw (c.set-in-Done.ensures, ← c.self.view_is)
-    (λ h bound keyed runs le.
-    let left = keys_left r m laws h p c.args.task c.args.running keyed runs _ c.len.result
+    rw (c.set_phase-in-Done.ensures, ← c.self.view_is)
+    (λ h bound now le.
+    let left = keys_left r m laws h p c.args.task c.args.running now.keyed now.running _ c.len.result
     (c.len.ensures ∙ c.self.inside.tasks.ok.0) c.truncate.ensures.keys in
-    says_next r m laws h p c.args.task c.args.running keyed runs c.in-Done.value bound
+    says_next r m laws h p c.args.task c.args.running now.keyed now.running c.in-Done.value bound
     (rw c.in-Done.is at c.in_ok-value.ensures) le _ left c.in_ok-asked-in-Done.asked c.in_ok-asked-in-Done.ensures
     (full_when _ _ _ c.self.inside.tasks.ok.0 c.is_empty.ensures c.if-is_empty.false))
 
@@ -69,8 +70,9 @@ returns-in_ok-push-in-Asks-2 g c =
       phase = i.phase;
     } in
     rw (← c.self-in-Asks.view_is)
-    (if_ok c.look.result (λ told f h bound keyed runs le.
-    let a = asked r m laws h p c.args.task c.args.running keyed runs c.in-Asks.asked c.in-Asks.waiting _ _ i.phase
+    (IfOk-weaker c.look.result _ _ (λ told f h bound now le.
+    let a = asked r m laws h p c.args.task c.args.running now.keyed now.running c.in-Asks.asked c.in-Asks.waiting _ _
+    i.phase
     (rw c.in-Asks.is at c.in_ok-value.ensures) c.in_ok-push-in-Asks.ensures.items
     c.in_ok-push-in-Asks-2.ensures.items in
     f c.args.theory.now h bound a.0 (lt_of_lt_of_le a.1 le)) c.look.ensures)

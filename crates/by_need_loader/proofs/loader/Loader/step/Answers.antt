@@ -1,5 +1,5 @@
 use Rattle.std.proofs.Common.{sym, ◌∙◌}
-use Rattle.by_need_loader.proofs.Lists.{if_ok}
+use Rattle.std.proofs.lemmas.Result.{IfOk-weaker}
 use Rattle.by_need_loader.proofs.Goes.{step_asked, step_lacks, step_runs}
 use Rattle.by_need_loader.proofs.loader.Loader.step.Goals as goal
 
@@ -9,7 +9,7 @@ returns-in-Asked g c =
     let m = g.Y.Program.runs c.args.theory.now in
     let laws = g.Y.Theory.laws c.args.theory.now in
     rw (← c.self.view_is)
-    (if_ok c.look.result (λ told f h ready on.
+    (IfOk-weaker c.look.result _ _ (λ told f h ready on.
     let a = step_asked r m laws h _ _ on c.in-Asked.task (sym c.replace.ensures.value ∙ c.in-Asked.is) in
     f c.args.theory.now h _ a.0 a.1) c.look.ensures)
 
@@ -19,7 +19,7 @@ returns-in-Lacks g c =
     let m = g.Y.Program.runs c.args.theory.now in
     let laws = g.Y.Theory.laws c.args.theory.now in
     rw (← c.self.view_is)
-    (if_ok c.enter.result (λ told f h ready on.
+    (IfOk-weaker c.enter.result _ _ (λ told f h ready on.
     let a = step_lacks r m laws h _ _ on c.in-Lacks.task (sym c.replace.ensures.value ∙ c.in-Lacks.is) in
     f h _ a.0 a.1 a.2) c.enter.ensures)
 
@@ -29,7 +29,7 @@ returns-in-Runs g c =
     let m = g.Y.Program.runs c.args.theory.now in
     let laws = g.Y.Theory.laws c.args.theory.now in
     rw (← c.self.view_is)
-    (if_ok c.go_on.result (λ told f h ready on.
+    (IfOk-weaker c.go_on.result _ _ (λ told f h ready on.
     let a = step_runs r m laws h _ on c.in-Runs.task c.in-Runs.running
     (sym c.replace.ensures.value ∙ c.in-Runs.is) in
-    f h _ a.0 a.1 a.2) c.go_on.ensures)
+    f h _ (record { keyed = a.0; running = a.1 }) a.2) c.go_on.ensures)

@@ -17,6 +17,7 @@ drop-none [] (suc i) e = refl
 drop-none (y ∷ ys) zero e = absurd cc
 drop-none (y ∷ ys) (suc i) e = drop-none ys i e
 
+-- a run with a question left asks it
 pub run_asks : (o : Option Body) (body : Body) (sum place asked : ℕ) → o ≡ Some body →
     slice_get body.questions.items place ≡ Some asked →
     from o sum place ≡ Ask asked (λ v. from o ((sum + v) % 2 ^ 64) (place + 1))
@@ -24,6 +25,7 @@ run_asks o body sum place asked e h =
     subst (λ x. from x sum place ≡ Ask asked (λ v. from x ((sum + v) % 2 ^ 64) (place + 1))) (sym e)
     (ap (λ ts. asks sum ts body.ending) (drop-some body.questions.items place asked h))
 
+-- a run without a question left ends
 pub run_ends : (o : Option Body) (body : Body) (sum place : ℕ) → o ≡ Some body → slice_get body.questions.items place
     ≡ None → from o sum place ≡ ends sum body.ending
 run_ends o body sum place e h = subst (λ x. from x sum place ≡ ends sum body.ending) (sym e)
