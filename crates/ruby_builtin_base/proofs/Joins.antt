@@ -1,5 +1,5 @@
 -- How joined texts grow at their end.
-use Rattle.std.proofs.Common.{◌≡◌, ℕ, suc, ◌+◌, ◌<◌, Bool, true, false, List, [], ◌∷◌, ◌++◌, length, map, take, get_or, cond, refl, ap, ◌∙◌, sym, append_assoc, arith}
+use Rattle.std.proofs.Common.{◌≡◌, ℕ, suc, ◌+◌, ◌<◌, Bool, true, false, List, [], ◌∷◌, ◌++◌, length, map, take, get_or, cond, min, length-append, refl, ap, ◌∙◌, sym, append_assoc, arith}
 use Rattle.std.proofs.lemmas.Grind.{common_steps}
 use Rattle.std.proofs.lemmas.List.{take_more}
 use Rattle.ruby_builtin_base.specs.Printed.{joined, pair_text, inspect, inspect_layer, inspect_pair}
@@ -63,3 +63,42 @@ pub inspect-Object : (path : List (List ℕ)) (ps : List (Value × Value)) → i
 inspect-Object path ps =
     fold_out-Value (List ℕ) inspect_layer (Object path ps)
     ∙ ap (λ x. inspect_layer (map-Value Value (List ℕ) inspect x)) (outs-Object path ps)
+
+-- ---- lengths
+
+-- one member more adds its length, and two bytes before it unless it is the first
+length-joined-push : {X : Type 0} (f : X → List ℕ) (ys : List X) (x : X) →
+    length (joined (map f (ys ++ x ∷ [])))
+    ≡ length (joined (map f ys)) + (cond (is_nil ys) 0 2 + length (f x))
+length-joined-push f [] x = omega arith
+length-joined-push f (y ∷ ys) x =
+    ap (λ t. length (joined t)) (map-push f (y ∷ ys) x)
+    ∙ ap length (joined-push (f y) (f x) (map f ys))
+    ∙ length-append (joined (map f (y ∷ ys))) (44 ∷ 32 ∷ f x)
+    ∙ (omega arith)
+
+-- the length of members with one more, saturated at each step
+pub length-joined-more : {X : Type 0} (f : X → List ℕ) (xs : List X) (i : ℕ) (x : X) (total comma one after most : ℕ)
+    (first : Bool) → i < length xs → x ≡ get_or xs i x →
+    (first ≡ is_nil (take i xs)) × (total ≡ min (length (joined (map f (take i xs)))) most) →
+    comma ≡ cond first 0 2 → one ≡ min (length (f x)) most → after ≡ min (min (total + comma) most + one) most →
+    (false ≡ is_nil (take (i + 1) xs)) × (after ≡ min (length (joined (map f (take (i + 1) xs)))) most)
+length-joined-more f xs i x total comma one after most first h e inv is_comma is_one is_after =
+    let grown = length-joined-push f (take i xs) x in
+    let so_far : comma ≡ cond (is_nil (take i xs)) 0 2 = is_comma ∙ ap (λ b. cond b 0 2) inv.0 in
+    rw (take_more xs i x h, ← e) (nil-push (take i xs) x, omega (arith, grown, so_far, inv.1, is_one, is_after))
+
+-- a pair is as long as its key and its value, and two bytes more
+pub length-pair : (p : Value × Value) →
+    length (inspect_pair p) ≡ length (inspect p.0) + (2 + length (inspect p.1))
+length-pair p = omega (arith, length-append (inspect p.0) (61 ∷ 62 ∷ inspect p.1))
+
+pub length-inspect-Hash : (ps : List (Value × Value)) →
+    length (inspect (Hash ps)) ≡ length (joined (map inspect_pair ps)) + 2
+length-inspect-Hash ps = ap length (inspect-Hash ps)
+    ∙ (omega (arith, length-append (joined (map inspect_pair ps)) (125 ∷ [])))
+
+pub length-inspect-Object : (path : List (List ℕ)) (ps : List (Value × Value)) →
+    length (inspect (Object path ps)) ≡ length (path_text path) + 3
+length-inspect-Object path ps = ap length (inspect-Object path ps)
+    ∙ (omega (arith, length-append (path_text path) (62 ∷ [])))
