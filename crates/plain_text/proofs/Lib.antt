@@ -1,3 +1,4 @@
+mod DigitLaws
 mod EscapeLaws
 pub mod PathLaws
 pub mod SegmentLaws

@@ -5,9 +5,9 @@ mod number;
 mod paths;
 mod quoting;
 
-pub use number::{decimal, push_decimal};
+pub use number::{decimal, decimal_len, push_decimal};
 pub use paths::{path_text, push_path, segments};
-pub use quoting::{INSPECT_ESCAPES, push_escaped, push_quoted, quoted};
+pub use quoting::{INSPECT_ESCAPES, push_escaped, push_quoted, quoted, quoted_len};
 
 #[cfg(test)]
 mod tests {

@@ -60,3 +60,23 @@ fn push_byte(shown: &mut Vec<u8>, escapes: &[(u8, u8)], byte: u8) -> Result<(), 
     shown.push(byte)?;
     Ok(())
 }
+
+/// The number of bytes that [`quoted`] writes, or 2^64 - 1 where they are more.
+pub fn quoted_len(bytes: &[u8]) -> u64
+    ensures { result ≡ min (length (spec.quoted bytes.now)) (2 ^ 64 - 1) }
+{
+    let mut total = 2u64;
+    for byte in bytes {
+        total = total.saturating_add(escaped_len(*byte));
+    }
+    total
+}
+
+fn escaped_len(byte: u8) -> u64
+    ensures { result ≡ length (spec.escaped byte) }
+{
+    match byte {
+        b'"' | b'\\' | b'\n' | b'\t' | b'\r' => 2,
+        _ => 1,
+    }
+}

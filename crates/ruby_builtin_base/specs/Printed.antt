@@ -70,8 +70,8 @@ class_name class.TurnBudget = codes "TurnBudgetError"
 -- the path of the file whose code ran, in parentheses behind a space, where there is one
 abbrev pub place_text : List ℕ → List ℕ
 place_text [] = []
-place_text (byte ∷ path) = 32 ∷ 40 ∷ ((byte ∷ path) ++ 41 ∷ [])
+place_text (byte ∷ path) = codes " (" ++ (byte ∷ path) ++ codes ")"
 
 -- an error as it is reported: `ZeroDivisionError: divided by 0 (app/controllers/calc_controller.rb)`
 abbrev pub error_text : RubyError → List ℕ
-error_text error = class_name error.class ++ (58 ∷ 32 ∷ (error.message ++ place_text error.path))
+error_text error = class_name error.class ++ codes ": " ++ error.message ++ place_text error.path

@@ -14,7 +14,7 @@ mod value;
 pub use compare::equal;
 pub use copies::{copy, copy_request, copy_task};
 pub use request::{ErrorClass, Reply, Request, RubyError, Task};
-pub use sizes::size;
+pub use sizes::{path_size, size};
 pub use tree::{
     Arms, ConstRef, Def, Defs, Expr, ExprPairs, Exprs, FileTree, Part, Parts, Stmt, Stmts,
 };

@@ -45,9 +45,9 @@ fn pairs_size(pairs: &[(Value, Value)]) -> u64
     total
 }
 
-/// The bytes of a printed constant path: its names with `::` between them.
+/// The bytes of a printed constant path, its names with `::` between them, or 2^64 - 1 where they are more.
 #[tactic(auto, using(crate::proofs::SizeLaws::path_size_of_names))]
-fn path_size(path: &CPath) -> u64
+pub fn path_size(path: &CPath) -> u64
     ensures { result ≡ min (spec.path_size path.now) (2 ^ 64 - 1) }
 {
     match path.as_slice().split_first() {

@@ -1,0 +1,17 @@
+-- How many digits a number has.
+use Rattle.std.proofs.Common.{◌≡◌, ℕ, ◌+◌, ◌<◌, ◌≤◌, ◌^◌, ◌/◌, ◌%◌, [], ◌∷◌, length, ap, ◌∙◌, length-append, lit<, arith}
+use Rattle.std.specs.Fmt.{decimal}
+use Rattle.std.proofs.lemmas.Fmt.{decimal_digit, decimal_step, length-decimal-le}
+
+-- one below ten
+pub one_digit : (n : ℕ) → n < 10 → length (decimal n) ≡ 1
+one_digit n small = ap length (decimal_digit n small)
+
+-- one more than its tenth from ten on
+pub digit_more : (n : ℕ) → 10 ≤ n → n < 2 ^ 64 → length (decimal n) ≡ length (decimal (n / 10)) + 1
+digit_more n large fits =
+    ap length (decimal_step n large fits) ∙ length-append (decimal (n / 10)) ((48 + n % 10) ∷ [])
+
+-- at most twenty
+pub twenty_digits : (n : ℕ) → n < 2 ^ 64 → length (decimal n) ≤ 20
+twenty_digits n fits = length-decimal-le 20 n (omega arith) (omega (arith, fits)) fits
