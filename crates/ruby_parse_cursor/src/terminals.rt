@@ -1,14 +1,18 @@
-//! What each word is to the grammar: one number for each reserved or left-out word, each kind of token and each
+//! The terminals of the grammar, as numbers: one for each reserved or left-out word, each kind of token and each
 //! operator.
 
 ghost use Rattle.std.specs.Prelude.{◌≡◌};
+ghost use Rattle.ruby_token.specs.Spans.{text_of};
 ghost use Rattle.ruby_words.specs.Words.{word_rows};
 ghost use Rattle.ruby_grammar.specs.Signs as spec;
-ghost use Rattle.ruby_parse_cursor.specs.Views.{code_view, left_out_sign, expression_sign, statement_sign};
+ghost use Rattle.ruby_parse_cursor.specs.Views.{code_view, left_out_terminal, expression_terminal, statement_terminal};
 
+use crate::word::text_of;
 use case_table::CaseTable;
-use ruby_token::{Op, TokenKind};
-use ruby_words::{FALSE, IF, LAST_RESERVED, MODULE, NIL, RAISE, RETURN, SELF, TRUE, UNLESS};
+use ruby_token::{Op, Token, TokenKind};
+use ruby_words::{
+    FALSE, IF, LAST_RESERVED, MODULE, NIL, RAISE, RETURN, SELF, TRUE, UNLESS, code_of,
+};
 
 /// A name that is no reserved and no left-out word. Those have the codes of `ruby_words`, from 1 to 47.
 pub const NAME: u16 = 0;
@@ -100,7 +104,8 @@ pub const NOTHING: u16 = 98;
 /// Each operator that the profile leaves out.
 pub const LEFT_OUT: u16 = 99;
 
-fn op_sign(op: Op) -> u16
+/// The terminal of an operator.
+pub fn operator_terminal(op: Op) -> u16
     ensures { result ≡ spec.op_sign op }
 {
     match op {
@@ -136,24 +141,24 @@ fn op_sign(op: Op) -> u16
     }
 }
 
-fn name_sign(words: &CaseTable<47>, text: &[u8]) -> u16
+fn name_terminal(words: &CaseTable<47>, text: &[u8]) -> u16
     requires { words.now ≡ word_rows }
     ensures { result ≡ spec.name_sign text.now }
 {
-    match words.find(text) {
+    match code_of(words, text) {
         Some(code) => code,
         None => NAME,
     }
 }
 
-/// The sign of a token with this text.
-pub fn sign_of(words: &CaseTable<47>, kind: TokenKind, text: &[u8]) -> u16
+/// The terminal of a token of these bytes. Only names are looked up.
+pub fn terminal_of(words: &CaseTable<47>, bytes: &[u8], token: Token) -> u16
     requires { words.now ≡ word_rows }
-    ensures { result ≡ spec.kind_sign kind text.now }
+    ensures { result ≡ spec.kind_sign token.kind (text_of bytes.now token) }
 {
-    match kind {
+    match token.kind {
         TokenKind::Line => LINE,
-        TokenKind::Name => name_sign(words, text),
+        TokenKind::Name => name_terminal(words, text_of(bytes, token)),
         TokenKind::Const => CONST,
         TokenKind::Ivar => IVAR,
         TokenKind::Label => LABEL,
@@ -164,34 +169,34 @@ pub fn sign_of(words: &CaseTable<47>, kind: TokenKind, text: &[u8]) -> u16
         TokenKind::InsideOpen => INSIDE_OPEN,
         TokenKind::InsideClose => INSIDE_CLOSE,
         TokenKind::TextClose => TEXT_CLOSE,
-        TokenKind::Op(op) => op_sign(op),
+        TokenKind::Op(op) => operator_terminal(op),
     }
 }
 
-/// The code in `ruby_words` of a word of this sign, where it is a reserved or a left-out one.
-pub fn code_of(sign: u16) -> Option<u16>
-    ensures { result ≡ code_view sign }
+/// The code in `ruby_words` of a word of this terminal, where it is a reserved or a left-out one.
+pub fn word_code(terminal: u16) -> Option<u16>
+    ensures { result ≡ code_view terminal }
 {
-    if (MODULE..=LAST_WORD).contains(&sign) {
-        Some(sign)
+    if (MODULE..=LAST_WORD).contains(&terminal) {
+        Some(terminal)
     } else {
         None
     }
 }
 
-/// Whether the profile leaves out the word or operator of this sign.
-pub fn is_left_out(sign: u16) -> bool
-    ensures { result ≡ left_out_sign sign }
+/// Whether the profile leaves out the word or operator of this terminal.
+pub fn is_left_out(terminal: u16) -> bool
+    ensures { result ≡ left_out_terminal terminal }
 {
-    (LAST_RESERVED + 1..=LAST_WORD).contains(&sign) || sign == LEFT_OUT
+    (LAST_RESERVED + 1..=LAST_WORD).contains(&terminal) || terminal == LEFT_OUT
 }
 
-/// Whether an expression may begin with a word of this sign.
-pub fn starts_expression(sign: u16) -> bool
-    ensures { result ≡ expression_sign sign }
+/// Whether an expression may begin with a word of this terminal.
+pub fn starts_expression(terminal: u16) -> bool
+    ensures { result ≡ expression_terminal terminal }
 {
     matches!(
-        sign,
+        terminal,
         NAME | SELF
             | NIL
             | TRUE
@@ -210,9 +215,9 @@ pub fn starts_expression(sign: u16) -> bool
     )
 }
 
-/// Whether a statement may begin with a word of this sign.
-pub fn starts_statement(sign: u16) -> bool
-    ensures { result ≡ statement_sign sign }
+/// Whether a statement may begin with a word of this terminal.
+pub fn starts_statement(terminal: u16) -> bool
+    ensures { result ≡ statement_terminal terminal }
 {
-    matches!(sign, IF | UNLESS | RETURN | RAISE) || starts_expression(sign)
+    matches!(terminal, IF | UNLESS | RETURN | RAISE) || starts_expression(terminal)
 }
