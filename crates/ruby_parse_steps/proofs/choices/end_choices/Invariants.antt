@@ -4,14 +4,14 @@ use Rattle.ruby_grammar.specs.Words.{Word}
 use Rattle.ruby_parse_cursor.specs.declared.fault.Fault.{Fault}
 use Rattle.ruby_parse_steps.specs.Scopes.{scope_view}
 use Rattle.ruby_parse_steps.specs.Opens.{BehindLast}
-use Rattle.ruby_parse_steps.proofs.choices.ended.Given as goal
+use Rattle.ruby_parse_steps.proofs.choices.end_choices.Given as goal
 
 abbrev pub invariant-opens : goal.invariant-opens
 invariant-opens l = record {
   goes_on : (r : Result Expr Fault) (end : List Word) →
-      BehindLast (scope_view l.fn.scope) l.opens.items l.value l.reader r end →
-      BehindLast (scope_view l.fn.scope) l.fn.opens.items l.fn.value l.fn.reader r end;
-  shorter : length l.reader ≤ length l.fn.reader;
+      BehindLast (scope_view l.fn.scope) l.opens.items l.value l.cursor r end →
+      BehindLast (scope_view l.fn.scope) l.fn.opens.items l.fn.value l.fn.cursor r end;
+  shorter : length l.cursor ≤ length l.fn.cursor;
 }
 
 abbrev pub decreases-opens : goal.decreases-opens
