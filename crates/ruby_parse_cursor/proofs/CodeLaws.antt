@@ -8,7 +8,7 @@ use Rattle.descent.specs.Reading.{head}
 use Rattle.ruby_grammar.specs.Words.{Word}
 use Rattle.ruby_grammar.specs.Signs.{sign, is}
 use Rattle.ruby_grammar.specs.Choices.{next_is}
-use Rattle.ruby_parse_cursor.specs.Views.{head_sign, code_view}
+use Rattle.ruby_parse_cursor.specs.Views.{head_terminal, code_view}
 
 abbrev is_code : ℕ → Bool
 is_code n = nat_le 1 n && nat_le n 47
@@ -34,12 +34,12 @@ code_is n c e =
     (cases_Bool (is_code n))
 
 -- the word at hand has this code, so it is this word
-pub sees_code : (ws : List Word) (c : ℕ) → code_view (head_sign ws) ≡ Some c → next_is (is c) (head ws) ≡ true
+pub sees_code : (ws : List Word) (c : ℕ) → code_view (head_terminal ws) ≡ Some c → next_is (is c) (head ws) ≡ true
 sees_code [] c e = none_some c e
 sees_code (w ∷ ws) c e = subst (λ n. (n == c) ≡ true) (sym (code_is (sign w) c e)) (alike c)
 
 -- the word at hand has another code or none, so it isn't this word
-pub lacks_code : (ws : List Word) (c : ℕ) → is_code c ≡ true → (code_view (head_sign ws) ≡ Some c → ⊥) →
+pub lacks_code : (ws : List Word) (c : ℕ) → is_code c ≡ true → (code_view (head_terminal ws) ≡ Some c → ⊥) →
     next_is (is c) (head ws) ≡ false
 lacks_code [] c y h = refl
 lacks_code (w ∷ ws) c y h =
@@ -49,7 +49,7 @@ lacks_code (w ∷ ws) c y h =
     (cases_Bool (sign w == c))
 
 -- the word at hand has another code, so it isn't this word
-pub other_code : (ws : List Word) (c d : ℕ) → code_view (head_sign ws) ≡ Some c → (c == d) ≡ false →
+pub other_code : (ws : List Word) (c d : ℕ) → code_view (head_terminal ws) ≡ Some c → (c == d) ≡ false →
     next_is (is d) (head ws) ≡ false
 other_code [] c d e h = refl
 other_code (w ∷ ws) c d e h = subst (λ n. (n == d) ≡ false) (sym (code_is (sign w) c e)) h

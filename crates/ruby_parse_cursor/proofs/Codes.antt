@@ -4,8 +4,8 @@ use Rattle.std.proofs.Common.{refl, sym, subst, ◌∙◌, arith}
 use Rattle.std.proofs.lemmas.Bool.{and_parts, cases_Bool, cond-false}
 use Rattle.std.proofs.lemmas.Bool.Decides.{nat_tests}
 use Rattle.std.proofs.lemmas.Slice.Eq.{bytes_eq-Decides}
-use Rattle.std.specs.Prelude.{bytes_eq}
-use Rattle.std.proofs.Common.{⊎_elim}
+use Rattle.std.specs.Prelude.{bytes_eq, nat_lt}
+use Rattle.std.proofs.Common.{⊎_elim, ◌<◌, cond, false, lit<}
 use Rattle.case_table.specs.Rows.{HasCode, HasNone}
 use Rattle.ruby_words.specs.Words.{word_rows}
 use Rattle.ruby_grammar.specs.Signs.{code_in, name_sign}
@@ -54,3 +54,26 @@ none_in (x ∷ rows) name h =
 
 pub has_none : (rows : List Row) (name : List ℕ) → rows ≡ word_rows → HasNone rows name → 0 ≡ name_sign name
 has_none rows name e h = sym (none_in word_rows name (subst (λ (l : List Row). HasNone l name) e h))
+
+low_if : (b : Bool) (m n : ℕ) → m < 48 → n < 48 → cond b m n < 48
+low_if true m n h k = h
+low_if false m n h k = k
+
+abbrev are_low : List Row → Bool
+are_low [] = true
+are_low (r ∷ rows) = nat_lt r.1 48 && are_low rows
+
+below : (m n : ℕ) → nat_lt m n ≡ true → m < n
+below m n h = grind (arith, nat_tests)
+
+low_in : (rows : List Row) (name : List ℕ) → are_low rows ≡ true → code_in rows name < 48
+low_in [] name h = lit< tt
+low_in (x ∷ rows) name h = low_if (bytes_eq x.0 name) x.1 (code_in rows name) (below x.1 48 (and_parts _ _ h).0)
+    (low_in rows name (and_parts _ _ h).1)
+
+words_are_low : are_low word_rows ≡ true
+words_are_low = refl
+
+-- No name has a code above those of the words.
+pub name_is_low : (name : List ℕ) → name_sign name < 48
+name_is_low name = low_in word_rows name words_are_low

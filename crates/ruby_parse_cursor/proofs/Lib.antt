@@ -4,3 +4,4 @@ mod Suffix
 pub mod KeyLaws
 pub mod CodeLaws
 mod Fitting
+mod AssignLaws

@@ -2,17 +2,17 @@
 //! variables of a method.
 #![tactic(auto)]
 
+mod cursor;
 mod fault;
 mod locals;
 mod numbers;
-mod reader;
-pub mod signs;
+pub mod terminals;
 mod texts;
 mod word;
 
+pub use cursor::Cursor;
 pub use fault::Fault;
 pub use locals::Locals;
-pub use numbers::value;
-pub use reader::Reader;
-pub use texts::plain;
+pub use numbers::number_value;
+pub use texts::plain_part;
 pub use word::{Word, before_colon, behind_sign, ends_in_suffix};

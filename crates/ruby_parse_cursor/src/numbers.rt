@@ -29,7 +29,7 @@ fn magnitude(digits: &[u8]) -> u64
 }
 
 /// The value of a number from -2^63 to 2^63 - 1.
-pub fn value(text: &[u8]) -> i64
+pub fn number_value(text: &[u8]) -> i64
     requires { is_in_range text.now ≡ true }
     ensures { result ≡ number_of text.now }
 {

@@ -81,7 +81,7 @@ fn text_bytes(alloc: Global, is_double: bool, piece: &[u8]) -> Result<Listed<u8>
 }
 
 /// What a piece of a text stands for.
-pub fn plain(alloc: Global, is_double: bool, piece: &[u8]) -> Result<Part, AllocError>
+pub fn plain_part(alloc: Global, is_double: bool, piece: &[u8]) -> Result<Part, AllocError>
     ensures { IfOk result (λ part. part ≡ Part.Plain (text_bytes is_double piece.now)) }
 {
     let bytes = text_bytes(alloc, is_double, piece)?;

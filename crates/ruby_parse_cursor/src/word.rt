@@ -1,10 +1,11 @@
 //! Words: the tokens of a file as the grammar sees them.
 
-ghost use Rattle.std.specs.Prelude.{◌≡◌};
-ghost use Rattle.ruby_grammar.specs.Signs as signs;
+ghost use Rattle.std.specs.Prelude.{◌≡◌, drop};
+ghost use Rattle.ruby_token.specs.Spans.{text_of};
+ghost use Rattle.ruby_grammar.specs.Signs as terminals;
 ghost use Rattle.ruby_grammar.specs.Values as values;
 
-use ruby_token::TokenKind;
+use ruby_token::{Token, TokenKind};
 
 /// A token with its text. `tight` says that it stands directly behind the token before it.
 #[derive(Clone, Copy)]
@@ -18,7 +19,7 @@ pub struct Word<'a> {
 
 /// Whether a `?` or `!` stands behind a name.
 pub fn ends_in_suffix(name: &[u8]) -> bool
-    ensures { result ≡ signs.ends_in_suffix name.now }
+    ensures { result ≡ terminals.ends_in_suffix name.now }
 {
     match name {
         [.., byte] => *byte == b'?' || *byte == b'!',
@@ -44,4 +45,24 @@ pub fn before_colon(text: &[u8]) -> &[u8]
         [] => text,
         [name @ .., _] => name,
     }
+}
+
+/// The bytes from this place on.
+fn behind(bytes: &[u8], from: usize) -> &[u8]
+    ensures { result.now ≡ drop from bytes.now }
+{
+    if from < bytes.len() {
+        &bytes[from..]
+    } else {
+        &[]
+    }
+}
+
+/// The bytes of a token.
+pub fn text_of(bytes: &[u8], token: Token) -> &[u8]
+    ensures { result.now ≡ text_of bytes.now token }
+{
+    let rest = behind(bytes, token.from as usize);
+    let size = token.to.saturating_sub(token.from) as usize;
+    &rest[..size.min(rest.len())]
 }

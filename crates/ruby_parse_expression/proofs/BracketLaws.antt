@@ -16,7 +16,7 @@ use Rattle.ruby_grammar.specs.Rules.{constant, members, pairs, expression}
 use Rattle.ruby_grammar.specs.Expressions.{at_levels, array_from, hash_from, group_from, constant_alone, constant_from}
 use Rattle.ruby_grammar.specs.Language.{ruby_grammar}
 use Rattle.ruby_grammar.specs.Choices.{ruby_choices, next_is, deepen}
-use Rattle.ruby_parse_cursor.specs.Views.{head_sign}
+use Rattle.ruby_parse_cursor.specs.Views.{head_terminal}
 use Rattle.ruby_parse_cursor.specs.declared.fault.Fault.{Fault}
 use Rattle.ruby_parse_cursor.specs.declared.fault.Fault.TheVariants as f
 use Rattle.ruby_parse_steps.specs.Gives.{GivesRule, GivesConstant}
@@ -33,13 +33,13 @@ either true b e = inl refl
 either false b e = inr e
 
 -- the first word's sign, where it passes
-pub sign_is : (n : ℕ) (ws : List Word) → next_is (is n) (head ws) ≡ true → head_sign ws ≡ n
+pub sign_is : (n : ℕ) (ws : List Word) → next_is (is n) (head ws) ≡ true → head_terminal ws ≡ n
 sign_is n [] p = absurd (cc)
 sign_is n (w ∷ ws) p = is_same (sign w) n p
 
 -- and where it is a bracket that is no `[` and no `{`
 other_sign : (n : ℕ) (ws : List Word) → (98 == n) ≡ false → next_is (is n) (head ws) ≡ false →
-    (head_sign ws == n) ≡ false
+    (head_terminal ws == n) ≡ false
 other_sign n [] o p = o
 other_sign n (w ∷ ws) o p = p
 
@@ -48,29 +48,29 @@ left_paren n h p q =
     ⊎_elim (λ ab. ⊎_elim (λ a. is_same n 91 a) (λ b. absurd (cc)) (either (n == 91) (n == 93) ab)) (λ c. absurd (cc))
     (either ((n == 91) || (n == 93)) (n == 95) h)
 
-pub is_paren : (ws : List Word) → opens_bracket (head_sign ws) ≡ true → next_is is_open_bracket (head ws) ≡ false →
-    next_is is_open_brace (head ws) ≡ false → head_sign ws ≡ 91
-is_paren ws h p q = left_paren (head_sign ws) h (other_sign 93 ws refl p) (other_sign 95 ws refl q)
+pub is_paren : (ws : List Word) → opens_bracket (head_terminal ws) ≡ true → next_is is_open_bracket (head ws) ≡ false →
+    next_is is_open_brace (head ws) ≡ false → head_terminal ws ≡ 91
+is_paren ws h p q = left_paren (head_terminal ws) h (other_sign 93 ws refl p) (other_sign 95 ws refl q)
 
 module _ (here : Scope) (ws : List Word) where
-  deep_array : here.levels ≡ 0 → head_sign ws ≡ 93 → GivesRule (primary here) ws (Err f.Deep) ws
+  deep_array : here.levels ≡ 0 → head_terminal ws ≡ 93 → GivesRule (primary here) ws (Err f.Deep) ws
   deep_array l s = g_deep {s = an_expression} (primary here) ws (chosen_at here ws 93 _ s refl refl
       ∙ ap (λ n. deepen n (array_from here)) l)
 
-  deep_hash : here.levels ≡ 0 → head_sign ws ≡ 95 → GivesRule (primary here) ws (Err f.Deep) ws
+  deep_hash : here.levels ≡ 0 → head_terminal ws ≡ 95 → GivesRule (primary here) ws (Err f.Deep) ws
   deep_hash l s = g_deep {s = an_expression} (primary here) ws (chosen_at here ws 95 _ s refl refl
       ∙ ap (λ n. deepen n (hash_from here)) l)
 
-  deep_group : here.levels ≡ 0 → head_sign ws ≡ 91 → GivesRule (primary here) ws (Err f.Deep) ws
+  deep_group : here.levels ≡ 0 → head_terminal ws ≡ 91 → GivesRule (primary here) ws (Err f.Deep) ws
   deep_group l s = g_deep {s = an_expression} (primary here) ws (chosen_at here ws 91 _ s refl refl
       ∙ ap (λ n. deepen n (group_from here)) l)
 
-  pub bracket_deep : opens_bracket (head_sign ws) ≡ true → here.levels ≡ 0 → GivesRule (primary here) ws (Err f.Deep) ws
+  pub bracket_deep : opens_bracket (head_terminal ws) ≡ true → here.levels ≡ 0 → GivesRule (primary here) ws (Err f.Deep) ws
   bracket_deep h l =
-      ⊎_elim (λ ab. ⊎_elim (λ a. deep_group l (is_same (head_sign ws) 91 a))
-      (λ b. deep_array l (is_same (head_sign ws) 93 b)) (either (head_sign ws == 91) (head_sign ws == 93) ab))
-      (λ c. deep_hash l (is_same (head_sign ws) 95 c))
-      (either ((head_sign ws == 91) || (head_sign ws == 93)) (head_sign ws == 95) h)
+      ⊎_elim (λ ab. ⊎_elim (λ a. deep_group l (is_same (head_terminal ws) 91 a))
+      (λ b. deep_array l (is_same (head_terminal ws) 93 b)) (either (head_terminal ws == 91) (head_terminal ws == 93) ab))
+      (λ c. deep_hash l (is_same (head_terminal ws) 95 c))
+      (either ((head_terminal ws == 91) || (head_terminal ws == 93)) (head_terminal ws == 95) h)
 
 module _ (here inner : Scope) (n : ℕ) (ws mid : List Word) (l : here.levels ≡ suc n) (i : inner ≡ at_levels here n)
     (d : mid ≡ drop 1 ws) where
@@ -127,7 +127,7 @@ module _ (here inner : Scope) (n : ℕ) (ws mid : List Word) (l : here.levels �
       (chosen_at here ws 95 _ (sign_is 95 ws p) refl refl ∙ ap (λ m. deepen m (hash_from here)) l) p d i ps behind a c
 
   -- ---- `(..)`
-  pub group_reads : (x : Expr) (behind rest : List Word) → head_sign ws ≡ 91 →
+  pub group_reads : (x : Expr) (behind rest : List Word) → head_terminal ws ≡ 91 →
       GivesRule (expression inner) mid (Ok x) behind → next_is is_close_paren (head behind) ≡ true →
       rest ≡ drop 1 behind →
       GivesRule (primary here) ws (Ok x) rest
@@ -137,14 +137,14 @@ module _ (here inner : Scope) (n : ℕ) (ws mid : List Word) (l : here.levels �
       (chosen_at here ws 91 _ s refl refl ∙ ap (λ m. deepen m (group_from here)) l) (sees ws 91 s refl) d i x behind
       rest rest (Ok x) a c e (g_give {s = an_expression} x rest)
 
-  pub group_breaks : (e : Fault) (rest : List Word) → head_sign ws ≡ 91 →
+  pub group_breaks : (e : Fault) (rest : List Word) → head_terminal ws ≡ 91 →
       GivesRule (expression inner) mid (Err e) rest → GivesRule (primary here) ws (Err e) rest
   group_breaks e rest s a =
       enclosed_breaks {s = an_expression} {v = an_expression} (primary here) (λ h. expression h)
       (λ x. give x) is_open_paren is_close_paren here inner n ws mid
       (chosen_at here ws 91 _ s refl refl ∙ ap (λ m. deepen m (group_from here)) l) (sees ws 91 s refl) d i e rest a
 
-  pub group_lacks_close : (x : Expr) (behind : List Word) → head_sign ws ≡ 91 →
+  pub group_lacks_close : (x : Expr) (behind : List Word) → head_terminal ws ≡ 91 →
       GivesRule (expression inner) mid (Ok x) behind → next_is is_close_paren (head behind) ≡ false →
       GivesRule (primary here) ws (Err f.Unexpected) behind
   group_lacks_close x behind s a c =
@@ -158,7 +158,7 @@ constant_gives : (ws rest : List Word) (r : Result ConstRef Fault) → GivesCons
 constant_gives ws rest (Ok c) g = λ ms. g None ms _ by_give
 constant_gives ws rest (Err e) g = λ ms. g None ms
 
-module _ (here : Scope) (n : ℕ) (ws : List Word) (s : head_sign ws ≡ n) (k : (n ≡ 51) ⊎ (n ≡ 86)) where
+module _ (here : Scope) (n : ℕ) (ws : List Word) (s : head_terminal ws ≡ n) (k : (n ≡ 51) ⊎ (n ≡ 86)) where
   alone_chosen : choose ruby_choices (primary here) ws ≡ take constant_alone
   alone_chosen = ⊎_elim (λ e. chosen_at here ws 51 _ (s ∙ e) refl refl)
       (λ e. chosen_at here ws 86 _ (s ∙ e) refl refl) k
@@ -199,7 +199,7 @@ moves_top w ws s =
 some_word : {A : Type 0} (n : ℕ) → 98 ≡ n → (n ≡ 51) ⊎ (n ≡ 86) → A
 some_word n e k = ⊎_elim (λ a. absurd (omega arith)) (λ b. absurd (omega arith)) k
 
-pub constant_taken : (n : ℕ) (ws rest : List Word) (c : ConstRef) → head_sign ws ≡ n → (n ≡ 51) ⊎ (n ≡ 86) →
+pub constant_taken : (n : ℕ) (ws rest : List Word) (c : ConstRef) → head_terminal ws ≡ n → (n ≡ 51) ⊎ (n ≡ 86) →
     GivesConstant ws (Ok c) rest → length rest < length ws
 constant_taken n [] rest c s k g = some_word n s k
 constant_taken n (w ∷ ws) rest c s k g =

@@ -6,14 +6,14 @@ use Rattle.ruby_grammar.specs.Words.{Word}
 use Rattle.ruby_grammar.specs.Signs.{is_tight_paren}
 use Rattle.ruby_grammar.specs.Rules.{Sort, Val, Rule, Scope, perhaps_arguments}
 use Rattle.ruby_grammar.specs.Choices.{next_is, starts_pair}
-use Rattle.ruby_parse_cursor.specs.Views.{head_sign}
+use Rattle.ruby_parse_cursor.specs.Views.{head_terminal}
 use Rattle.ruby_parse_cursor.specs.declared.fault.Fault.{Fault}
 use Rattle.ruby_parse_steps.specs.Gives.{GivesRule, GivesConstant}
 use Rattle.ruby_parse_steps.specs.declared.choices.Open.{Open}
 use Rattle.ruby_parse_steps.specs.Opens.{BehindLast, GivesEnded}
 use Rattle.ruby_parse_steps.specs.Primaries.{GivesArguments}
 use Rattle.ruby_parse_steps.proofs.NameLaws.{perhaps_reads, perhaps_breaks}
-use Rattle.ruby_parse_expression.specs.Pairs.{pair_sign}
+use Rattle.ruby_parse_expression.specs.Pairs.{pair_terminal}
 
 pub fails : {s : Sort} (rule : Rule s) (ws rest end : List Word) (d e : Fault) → end ≡ rest → e ≡ d →
     GivesRule rule ws (Err d) rest → GivesRule rule ws (Err e) end
@@ -39,7 +39,7 @@ pub perhaps_gives : (here : Scope) (ws rest : List Word) (r : Result (List Expr)
 perhaps_gives here ws rest (Ok args) p g = perhaps_reads here args ws rest p g
 perhaps_gives here ws rest (Err e) p g = perhaps_breaks here e ws rest p g
 
-pub pair_at : (ws : List Word) → next_is starts_pair (head ws) ≡ pair_sign (head_sign ws)
+pub pair_at : (ws : List Word) → next_is starts_pair (head ws) ≡ pair_terminal (head_terminal ws)
 pair_at [] = refl
 pair_at (w ∷ ws) = refl
 

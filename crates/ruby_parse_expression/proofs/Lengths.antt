@@ -30,3 +30,6 @@ falls h g = omega arith
 
 pub same : (ws : List Word) → length ws ≤ length ws
 same ws = omega arith
+
+pub no_longer : {a b c : ℕ} → b ≤ a → a < c → b < c
+no_longer h g = omega arith

@@ -1,4 +1,3 @@
-pub mod Ranks
 pub mod Lengths
 pub mod PairLaws
 pub mod MemberLaws
@@ -6,3 +5,4 @@ pub mod TextLaws
 pub mod BracketLaws
 pub mod OperandLaws
 pub mod Failing
+pub mod PartLaws

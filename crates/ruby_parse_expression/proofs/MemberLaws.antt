@@ -6,14 +6,14 @@ use Rattle.ruby_grammar.specs.Words.{Word}
 use Rattle.ruby_grammar.specs.Signs.{is_comma}
 use Rattle.ruby_grammar.specs.Rules.{Scope, expression, members, more_members, pairs, more_pairs, pair}
 use Rattle.ruby_grammar.specs.Choices.{next_is, starts_pair}
-use Rattle.ruby_parse_cursor.specs.Views.{head_sign, expression_sign}
+use Rattle.ruby_parse_cursor.specs.Views.{head_terminal, expression_terminal}
 use Rattle.ruby_parse_cursor.specs.declared.fault.Fault.{Fault}
 use Rattle.ruby_parse_steps.specs.Gives.{GivesRule}
 use Rattle.ruby_parse_steps.proofs.ArgumentLaws.{member_reads, comma_reads, no_comma}
 use Rattle.ruby_parse_expression.proofs.PairLaws as p
 
 module _ (here : Scope) (xs more : List Expr) (x : Expr) (ws mid : List Word)
-    (s : expression_sign (head_sign ws) ≡ true) (a : GivesRule (expression here) ws (Ok x) mid)
+    (s : expression_terminal (head_terminal ws) ≡ true) (a : GivesRule (expression here) ws (Ok x) mid)
     (m : more ≡ xs ++ x ∷ []) where
   pub member_goes_on : (rest end : List Word) (r : Result (List Expr) Fault) → next_is is_comma (head mid) ≡ true →
       rest ≡ drop 1 mid → GivesRule (members here more) rest r end → GivesRule (members here xs) ws r end

@@ -13,7 +13,7 @@ use Rattle.ruby_grammar.specs.Rules.{Scope, an_expression, some_parts, expressio
 use Rattle.ruby_grammar.specs.Values.{text_bytes, is_double_quote, begins_with}
 use Rattle.ruby_grammar.specs.Expressions.{at_levels, text_from, inside_from, piece_from}
 use Rattle.ruby_grammar.specs.Choices.{ruby_choices, next_is, deepen}
-use Rattle.ruby_parse_cursor.specs.Views.{head_sign}
+use Rattle.ruby_parse_cursor.specs.Views.{head_terminal}
 use Rattle.ruby_parse_cursor.specs.declared.fault.Fault.{Fault}
 use Rattle.ruby_parse_cursor.specs.declared.fault.Fault.TheVariants as f
 use Rattle.ruby_parse_steps.specs.Gives.{GivesRule}
@@ -101,7 +101,7 @@ same_quote : (text : List ℕ) → begins_double text ≡ begins_with 34 text
 same_quote [] = refl
 same_quote (b ∷ bs) = refl
 
-module _ (here : Scope) (w : Word) (double : Bool) (ws mid : List Word) (s : head_sign ws ≡ 56) (e : ws ≡ w ∷ mid)
+module _ (here : Scope) (w : Word) (double : Bool) (ws mid : List Word) (s : head_terminal ws ≡ 56) (e : ws ≡ w ∷ mid)
     (o : is_text_open w ≡ true) (t : double ≡ begins_double w.text) where
   parts_as : (r : Result (List Part) Fault) (rest : List Word) → GivesRule (text_parts here double []) mid r rest →
       GivesRule (text_parts here (is_double_quote w) []) mid r rest

@@ -1,6 +1,6 @@
 -- What a pair of a hash begins with, by its sign.
 use Rattle.std.specs.Prelude.{ℕ, Bool, ◌==◌, ◌||◌}
-use Rattle.ruby_parse_cursor.specs.Views.{expression_sign}
+use Rattle.ruby_parse_cursor.specs.Views.{expression_terminal}
 
-abbrev pub pair_sign : ℕ → Bool
-pair_sign n = (n == 53) || expression_sign n
+abbrev pub pair_terminal : ℕ → Bool
+pair_terminal n = (n == 53) || expression_terminal n

@@ -1,4 +1,4 @@
-//! Expressions: the part of the reader by recursive descent whose functions call each other.
+//! Expressions: the part of the parser by recursive descent whose functions call each other.
 //!
 //! [`expression`] reads what the rule `expression` of the grammar reads.
 #![tactic(auto)]

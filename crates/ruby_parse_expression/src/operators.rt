@@ -7,50 +7,78 @@ ghost use Rattle.ruby_parse_steps.specs.Scopes.{scope_view};
 ghost use Rattle.ruby_parse_steps.specs.Levels.{level_view};
 
 use crate::primary::postfix;
-use ruby_parse_cursor::signs::{ASK, MINUS, NOT};
-use ruby_parse_cursor::{Fault, Reader};
-use ruby_parse_steps::{Level, Open, Scope, ended, minus, negated, operation, push_open};
+use ruby_parse_cursor::terminals::{ASK, MINUS, NOT};
+use ruby_parse_cursor::{Cursor, Fault};
+use ruby_parse_steps::{
+    Level, Open, Scope, end_choices, is_operator, minus_call, negated, operation, push_open,
+};
 use ruby_types::Expr;
 
 /// An expression. Choices inside choices open no level, and are read with a stack of their own.
 #[cycle(expression)]
-pub fn expression<'a>(scope: Scope<'_, 'a>, reader: &mut Reader<'a>) -> Result<Expr, Fault>
-    ensures reads { GivesRule (rules.expression (scope_view scope.entry)) reader.old result reader.new }
-    ensures shorter { length reader.new ≤ length reader.old }
-    ensures taken { OnOk result (length reader.new < length reader.old) }
+pub fn expression<'a>(scope: Scope<'_, 'a>, cursor: &mut Cursor<'a>) -> Result<Expr, Fault>
+    ensures reads { GivesRule (rules.expression (scope_view scope.entry)) cursor.old result cursor.new }
+    ensures shorter { length cursor.new ≤ length cursor.old }
+    ensures taken { OnOk result (length cursor.new < length cursor.old) }
 {
     let mut opens = Vec::new(scope.alloc);
     'values: loop {
-        let value = operators(scope, Level::Disjunctions, reader)?;
-        if reader.sees(ASK) {
-            reader.skip();
+        let value = operators(scope, Level::Disjunctions, cursor)?;
+        if cursor.sees(ASK) {
+            cursor.skip();
             push_open(&mut opens, Open::Test(value))?;
-        } else {
-            match ended(scope, &mut opens, value, reader)? {
-                Some(value) => return Ok(value),
-                None => {}
-            }
+            continue;
+        }
+        match end_choices(scope, &mut opens, value, cursor)? {
+            Some(value) => return Ok(value),
+            None => {}
         }
     }
 }
 
-/// Operands with operators of this level between them.
+/// Operands with operators of this level and of tighter ones between them, by one loop: behind an operand come the
+/// operators of each level, from the tightest on.
 #[cycle(expression)]
-fn operators<'a>(scope: Scope<'_, 'a>, level: Level, reader: &mut Reader<'a>) -> Result<Expr, Fault>
-    ensures reads { GivesRule (rules.operators (level_view level) (scope_view scope.entry)) reader.old result
-        reader.new }
-    ensures shorter { length reader.new ≤ length reader.old }
-    ensures taken { OnOk result (length reader.new < length reader.old) }
+fn operators<'a>(
+    scope: Scope<'_, 'a>,
+    loosest: Level,
+    cursor: &mut Cursor<'a>,
+) -> Result<Expr, Fault>
+    ensures reads { GivesRule (rules.operators (level_view loosest) (scope_view scope.entry)) cursor.old result
+        cursor.new }
+    ensures shorter { length cursor.new ≤ length cursor.old }
+    ensures taken { OnOk result (length cursor.new < length cursor.old) }
 {
-    if matches!(level, Level::Units) {
-        return unary(scope, reader);
+    let mut x = unary(scope, cursor)?;
+    let mut level = Level::Units;
+    'levels: while loosest.is_looser_than(level) {
+        if !is_operator(cursor.peek_terminal()) {
+            return Ok(x);
+        }
+        level = level.looser();
+        x = more_operators(scope, level, x, cursor)?;
     }
-    let mut x = operators(scope, level.tighter(), reader)?;
-    'operands: while level.has(reader.sign()) {
-        let sign = reader.sign();
-        let operator = reader.taken(sign)?;
-        let y = operators(scope, level.tighter(), reader)?;
-        x = operation(scope.alloc, sign, operator, x, y)?;
+    Ok(x)
+}
+
+/// What follows the first operand of a level: operators of the level, each with its second operand.
+#[cycle(expression)]
+fn more_operators<'a>(
+    scope: Scope<'_, 'a>,
+    level: Level,
+    first: Expr,
+    cursor: &mut Cursor<'a>,
+) -> Result<Expr, Fault>
+    ensures reads { GivesRule (rules.more_operators (level_view level) (scope_view scope.entry) first) cursor.old
+        result cursor.new }
+    ensures shorter { length cursor.new ≤ length cursor.old }
+{
+    let mut x = first;
+    'operands: while level.has(cursor.peek_terminal()) {
+        let terminal = cursor.peek_terminal();
+        let operator = cursor.take_word(terminal)?;
+        let y = operators(scope, level.operand_level(), cursor)?;
+        x = operation(scope.alloc, terminal, operator, x, y)?;
         if !level.repeats() {
             return Ok(x);
         }
@@ -60,22 +88,22 @@ fn operators<'a>(scope: Scope<'_, 'a>, level: Level, reader: &mut Reader<'a>) ->
 
 /// `!x`, `-x`, or an operand without these.
 #[cycle(expression)]
-fn unary<'a>(scope: Scope<'_, 'a>, reader: &mut Reader<'a>) -> Result<Expr, Fault>
-    ensures reads { GivesRule (rules.unary (scope_view scope.entry)) reader.old result reader.new }
-    ensures shorter { length reader.new ≤ length reader.old }
-    ensures taken { OnOk result (length reader.new < length reader.old) }
+fn unary<'a>(scope: Scope<'_, 'a>, cursor: &mut Cursor<'a>) -> Result<Expr, Fault>
+    ensures reads { GivesRule (rules.unary (scope_view scope.entry)) cursor.old result cursor.new }
+    ensures shorter { length cursor.new ≤ length cursor.old }
+    ensures taken { OnOk result (length cursor.new < length cursor.old) }
 {
-    if reader.sees(NOT) {
+    if cursor.sees(NOT) {
         let inner = scope.inner()?;
-        reader.skip();
-        let x = unary(inner, reader)?;
+        cursor.skip();
+        let x = unary(inner, cursor)?;
         Ok(negated(scope.alloc, x)?)
-    } else if reader.sees(MINUS) {
+    } else if cursor.sees(MINUS) {
         let inner = scope.inner()?;
-        reader.skip();
-        let x = unary(inner, reader)?;
-        Ok(minus(scope.alloc, x)?)
+        cursor.skip();
+        let x = unary(inner, cursor)?;
+        Ok(minus_call(scope.alloc, x)?)
     } else {
-        postfix(scope, reader)
+        postfix(scope, cursor)
     }
 }

@@ -1,97 +1,113 @@
 //! What operators work on: values, names, calls, brackets.
 
-ghost use Rattle.std.specs.Prelude.{◌≡◌, ◌≢◌, ◌≤◌, ◌<◌, [], drop, length, true, false, None, Ok, OnOk};
+ghost use Rattle.std.specs.Prelude.{◌≡◌, ◌≢◌, ◌≤◌, ◌<◌, [], drop, length, true, false, None, Ok, OnOk, IfOk, IfSome};
 ghost use Rattle.descent.specs.Reading.{head};
 ghost use Rattle.ruby_grammar.specs.Choices.{next_is};
 ghost use Rattle.ruby_grammar.specs.Signs.{is_dot, is_tight_bracket, is_tight_paren};
 ghost use Rattle.ruby_grammar.specs.Rules as rules;
-ghost use Rattle.ruby_parse_cursor.specs.Views.{head_sign};
-ghost use Rattle.ruby_parse_steps.specs.Gives.{GivesRule, GivesMore};
+ghost use Rattle.ruby_parse_cursor.specs.Views.{head_terminal};
+ghost use Rattle.ruby_parse_steps.specs.Gives.{GivesRule};
+ghost use Rattle.ruby_parse_steps.specs.Postfixes.{GivesPostfix, GivesPerhapsPostfix};
 ghost use Rattle.ruby_parse_steps.specs.Primaries.{nests, opens_bracket, begins_double, GivesArguments};
 ghost use Rattle.ruby_parse_steps.specs.Scopes.{scope_view};
 
 use crate::arguments::{members, pairs};
 use crate::operators::expression;
 use case_table::cases;
-use ruby_parse_cursor::signs::{
+use ruby_parse_cursor::terminals::{
     CLOSE_BRACE, CLOSE_BRACKET, CLOSE_PAREN, CONST, DOT, INSIDE_CLOSE, INSIDE_OPEN, INT, IVAR,
     NAME, OPEN_BRACE, OPEN_BRACKET, OPEN_PAREN, PATH, SYM, TEXT_CLOSE, TEXT_OPEN, TEXT_PIECE,
 };
-use ruby_parse_cursor::{Fault, Reader, behind_sign, plain};
-use ruby_parse_steps::{Scope, call, call_with, constant};
+use ruby_parse_cursor::{Cursor, Fault, behind_sign, plain_part};
+use ruby_parse_steps::{Postfix, Scope, constant, with_postfix};
 use ruby_types::{Expr, Exprs, Part, Parts, Text};
 use ruby_words::{FALSE, NIL, SELF, TRUE};
 
 /// A primary and the calls and indexes behind it.
 #[cycle(expression)]
-pub fn postfix<'a>(scope: Scope<'_, 'a>, reader: &mut Reader<'a>) -> Result<Expr, Fault>
-    ensures reads { GivesRule (rules.postfix (scope_view scope.entry)) reader.old result reader.new }
-    ensures shorter { length reader.new ≤ length reader.old }
-    ensures taken { OnOk result (length reader.new < length reader.old) }
+pub fn postfix<'a>(scope: Scope<'_, 'a>, cursor: &mut Cursor<'a>) -> Result<Expr, Fault>
+    ensures reads { GivesRule (rules.postfix (scope_view scope.entry)) cursor.old result cursor.new }
+    ensures shorter { length cursor.new ≤ length cursor.old }
+    ensures taken { OnOk result (length cursor.new < length cursor.old) }
 {
-    let mut x = primary(scope, reader)?;
-    'calls: loop {
-        if reader.sees(DOT) {
-            x = member(scope, x, reader)?;
-        } else if reader.sees_tight(OPEN_BRACKET) {
-            x = index(scope, x, reader)?;
-        } else {
-            return Ok(x);
-        }
+    let mut x = primary(scope, cursor)?;
+    'calls: while let Some(part) = perhaps_postfix(scope, cursor)? {
+        x = with_postfix(scope.alloc, x, part)?;
+    }
+    Ok(x)
+}
+
+/// A call or an index behind an expression, or none.
+#[cycle(expression)]
+fn perhaps_postfix<'a>(
+    scope: Scope<'_, 'a>,
+    cursor: &mut Cursor<'a>,
+) -> Result<Option<Postfix>, Fault>
+    ensures reads { GivesPerhapsPostfix (scope_view scope.entry) cursor.old result cursor.new }
+    ensures shorter { length cursor.new ≤ length cursor.old }
+    ensures taken { IfOk result (λ o. IfSome o (λ p. length cursor.new < length cursor.old)) }
+{
+    if cursor.sees(DOT) {
+        Ok(Some(member(scope, cursor)?))
+    } else if cursor.sees_tight(OPEN_BRACKET) {
+        Ok(Some(index(scope, cursor)?))
+    } else {
+        Ok(None)
     }
 }
 
 /// `.name` or `.name(..)` behind an expression.
 #[cycle(expression)]
-fn member<'a>(scope: Scope<'_, 'a>, x: Expr, reader: &mut Reader<'a>) -> Result<Expr, Fault>
-    requires { next_is is_dot (head reader.old) ≡ true }
-    ensures reads { GivesMore (rules.more_postfix (scope_view scope.entry)) x reader.old result reader.new }
-    ensures shorter { length reader.new ≤ length reader.old }
-    ensures taken { OnOk result (length reader.new < length reader.old) }
+fn member<'a>(scope: Scope<'_, 'a>, cursor: &mut Cursor<'a>) -> Result<Postfix, Fault>
+    requires { next_is is_dot (head cursor.old) ≡ true }
+    ensures reads { GivesPostfix (scope_view scope.entry) cursor.old result cursor.new }
+    ensures shorter { length cursor.new ≤ length cursor.old }
+    ensures taken { OnOk result (length cursor.new < length cursor.old) }
 {
-    reader.skip();
-    let name = reader.taken(NAME)?;
-    let args = perhaps_arguments(scope, reader)?;
-    Ok(call(scope.alloc, x, name.text, args)?)
+    cursor.skip();
+    let word = cursor.take_word(NAME)?;
+    let name = Text::from_bytes(scope.alloc, word.text)?;
+    let args = perhaps_arguments(scope, cursor)?;
+    Ok(Postfix::Call(name, args))
 }
 
 /// `[i]` behind an expression.
 #[cycle(expression)]
-fn index<'a>(scope: Scope<'_, 'a>, x: Expr, reader: &mut Reader<'a>) -> Result<Expr, Fault>
-    requires { next_is is_tight_bracket (head reader.old) ≡ true }
-    ensures reads { GivesMore (rules.more_postfix (scope_view scope.entry)) x reader.old result reader.new }
-    ensures shorter { length reader.new ≤ length reader.old }
-    ensures taken { OnOk result (length reader.new < length reader.old) }
+fn index<'a>(scope: Scope<'_, 'a>, cursor: &mut Cursor<'a>) -> Result<Postfix, Fault>
+    requires { next_is is_tight_bracket (head cursor.old) ≡ true }
+    ensures reads { GivesPostfix (scope_view scope.entry) cursor.old result cursor.new }
+    ensures shorter { length cursor.new ≤ length cursor.old }
+    ensures taken { OnOk result (length cursor.new < length cursor.old) }
 {
     let inner = scope.inner()?;
-    reader.skip();
-    let i = expression(inner, reader)?;
-    reader.take(CLOSE_BRACKET)?;
-    Ok(call_with(scope.alloc, x, b"[]", i)?)
+    cursor.skip();
+    let i = expression(inner, cursor)?;
+    cursor.take(CLOSE_BRACKET)?;
+    Ok(Postfix::Index(i))
 }
 
 /// Arguments in parentheses.
 #[cycle(expression)]
-fn arguments<'a>(scope: Scope<'_, 'a>, reader: &mut Reader<'a>) -> Result<Exprs, Fault>
-    requires { next_is is_tight_paren (head reader.old) ≡ true }
-    ensures reads { GivesArguments (scope_view scope.entry) reader.old result reader.new }
-    ensures shorter { length reader.new ≤ length reader.old }
+fn arguments<'a>(scope: Scope<'_, 'a>, cursor: &mut Cursor<'a>) -> Result<Exprs, Fault>
+    requires { next_is is_tight_paren (head cursor.old) ≡ true }
+    ensures reads { GivesArguments (scope_view scope.entry) cursor.old result cursor.new }
+    ensures shorter { length cursor.new ≤ length cursor.old }
 {
     let inner = scope.inner()?;
-    reader.skip();
-    let args = members(inner, reader)?;
-    reader.take(CLOSE_PAREN)?;
+    cursor.skip();
+    let args = members(inner, cursor)?;
+    cursor.take(CLOSE_PAREN)?;
     Ok(args)
 }
 
 /// Arguments in parentheses directly behind a name, or none.
 #[cycle(expression)]
-fn perhaps_arguments<'a>(scope: Scope<'_, 'a>, reader: &mut Reader<'a>) -> Result<Exprs, Fault>
-    ensures reads { GivesRule (rules.perhaps_arguments (scope_view scope.entry)) reader.old result reader.new }
-    ensures shorter { length reader.new ≤ length reader.old }
+fn perhaps_arguments<'a>(scope: Scope<'_, 'a>, cursor: &mut Cursor<'a>) -> Result<Exprs, Fault>
+    ensures reads { GivesRule (rules.perhaps_arguments (scope_view scope.entry)) cursor.old result cursor.new }
+    ensures shorter { length cursor.new ≤ length cursor.old }
 {
-    if reader.sees_tight(OPEN_PAREN) {
-        arguments(scope, reader)
+    if cursor.sees_tight(OPEN_PAREN) {
+        arguments(scope, cursor)
     } else {
         Ok(Exprs::new(scope.alloc))
     }
@@ -99,65 +115,65 @@ fn perhaps_arguments<'a>(scope: Scope<'_, 'a>, reader: &mut Reader<'a>) -> Resul
 
 /// A value, a name, or what stands in brackets.
 #[cycle(expression)]
-fn primary<'a>(scope: Scope<'_, 'a>, reader: &mut Reader<'a>) -> Result<Expr, Fault>
-    ensures reads { GivesRule (rules.primary (scope_view scope.entry)) reader.old result reader.new }
-    ensures shorter { length reader.new ≤ length reader.old }
-    ensures taken { OnOk result (length reader.new < length reader.old) }
+fn primary<'a>(scope: Scope<'_, 'a>, cursor: &mut Cursor<'a>) -> Result<Expr, Fault>
+    ensures reads { GivesRule (rules.primary (scope_view scope.entry)) cursor.old result cursor.new }
+    ensures shorter { length cursor.new ≤ length cursor.old }
+    ensures taken { OnOk result (length cursor.new < length cursor.old) }
 {
-    match reader.sign() {
-        NAME => name(scope, reader),
-        TEXT_OPEN => text(scope, reader),
-        CONST | PATH => Ok(Expr::Const(constant(scope.alloc, reader)?)),
-        OPEN_PAREN | OPEN_BRACKET | OPEN_BRACE => bracket(scope, reader),
-        _ => literal(scope, reader),
+    match cursor.peek_terminal() {
+        NAME => name(scope, cursor),
+        TEXT_OPEN => text(scope, cursor),
+        CONST | PATH => Ok(Expr::Const(constant(scope.alloc, cursor)?)),
+        OPEN_PAREN | OPEN_BRACKET | OPEN_BRACE => bracket(scope, cursor),
+        _ => literal(scope, cursor),
     }
 }
 
 /// A word that is an expression by itself.
-fn literal<'a>(scope: Scope<'_, 'a>, reader: &mut Reader<'a>) -> Result<Expr, Fault>
-    requires { nests (head_sign reader.old) ≡ false }
-    ensures reads { GivesRule (rules.primary (scope_view scope.entry)) reader.old result reader.new }
-    ensures shorter { length reader.new ≤ length reader.old }
-    ensures taken { OnOk result (length reader.new < length reader.old) }
+fn literal<'a>(scope: Scope<'_, 'a>, cursor: &mut Cursor<'a>) -> Result<Expr, Fault>
+    requires { nests (head_terminal cursor.old) ≡ false }
+    ensures reads { GivesRule (rules.primary (scope_view scope.entry)) cursor.old result cursor.new }
+    ensures shorter { length cursor.new ≤ length cursor.old }
+    ensures taken { OnOk result (length cursor.new < length cursor.old) }
 {
-    match reader.sign() {
-        INT => Ok(Expr::Int(reader.number()?)),
+    match cursor.peek_terminal() {
+        INT => Ok(Expr::Int(cursor.take_number()?)),
         SYM => {
-            let word = reader.taken(SYM)?;
+            let word = cursor.take_word(SYM)?;
             Ok(Expr::Sym(Text::from_bytes(scope.alloc, behind_sign(word.text))?))
         }
         IVAR => {
-            let word = reader.taken(IVAR)?;
+            let word = cursor.take_word(IVAR)?;
             Ok(Expr::Ivar(Text::from_bytes(scope.alloc, behind_sign(word.text))?))
         }
-        _ => reserved(reader),
+        _ => reserved(cursor),
     }
 }
 
 /// Passes over the word at hand, which stands for this value.
-fn passed(value: Expr, reader: &mut Reader<'_>) -> Result<Expr, Fault>
+fn passed(value: Expr, cursor: &mut Cursor<'_>) -> Result<Expr, Fault>
     ensures value { result ≡ Ok value }
-    ensures passed { reader.new ≡ drop 1 reader.old }
+    ensures passed { cursor.new ≡ drop 1 cursor.old }
 {
-    reader.skip();
+    cursor.skip();
     Ok(value)
 }
 
 /// A reserved word that is an expression by itself.
-fn reserved(reader: &mut Reader<'_>) -> Result<Expr, Fault>
-    requires nests { nests (head_sign reader.old) ≡ false }
-    requires no_number { head_sign reader.old ≢ 55 }
-    requires no_symbol { head_sign reader.old ≢ 54 }
-    requires no_variable { head_sign reader.old ≢ 52 }
-    ensures reads { (here : rules.Scope) → GivesRule (rules.primary here) reader.old result reader.new }
-    ensures shorter { length reader.new ≤ length reader.old }
-    ensures taken { OnOk result (length reader.new < length reader.old) }
+fn reserved(cursor: &mut Cursor<'_>) -> Result<Expr, Fault>
+    requires nests { nests (head_terminal cursor.old) ≡ false }
+    requires no_number { head_terminal cursor.old ≢ 55 }
+    requires no_symbol { head_terminal cursor.old ≢ 54 }
+    requires no_variable { head_terminal cursor.old ≢ 52 }
+    ensures reads { (here : rules.Scope) → GivesRule (rules.primary here) cursor.old result cursor.new }
+    ensures shorter { length cursor.new ≤ length cursor.old }
+    ensures taken { OnOk result (length cursor.new < length cursor.old) }
 {
-    cases!(reader.code();
-        NIL => passed(Expr::Nil, reader),
-        TRUE => passed(Expr::True, reader),
-        FALSE => passed(Expr::False, reader),
-        SELF => passed(Expr::SelfRef, reader);
+    cases!(cursor.peek_code();
+        NIL => passed(Expr::Nil, cursor),
+        TRUE => passed(Expr::True, cursor),
+        FALSE => passed(Expr::False, cursor),
+        SELF => passed(Expr::SelfRef, cursor);
         Err(Fault::Unexpected)
     )
 }
@@ -174,16 +190,16 @@ fn call_on_self(name: Text, args: Exprs) -> Expr
 
 /// A local variable, or a call on self.
 #[cycle(expression)]
-fn name<'a>(scope: Scope<'_, 'a>, reader: &mut Reader<'a>) -> Result<Expr, Fault>
-    requires { head_sign reader.old ≡ 0 }
-    ensures reads { GivesRule (rules.primary (scope_view scope.entry)) reader.old result reader.new }
-    ensures shorter { length reader.new ≤ length reader.old }
-    ensures taken { OnOk result (length reader.new < length reader.old) }
+fn name<'a>(scope: Scope<'_, 'a>, cursor: &mut Cursor<'a>) -> Result<Expr, Fault>
+    requires { head_terminal cursor.old ≡ 0 }
+    ensures reads { GivesRule (rules.primary (scope_view scope.entry)) cursor.old result cursor.new }
+    ensures shorter { length cursor.new ≤ length cursor.old }
+    ensures taken { OnOk result (length cursor.new < length cursor.old) }
 {
-    let word = reader.taken(NAME)?;
+    let word = cursor.take_word(NAME)?;
     let name = Text::from_bytes(scope.alloc, word.text)?;
-    if reader.sees_tight(OPEN_PAREN) {
-        let args = arguments(scope, reader)?;
+    if cursor.sees_tight(OPEN_PAREN) {
+        let args = arguments(scope, cursor)?;
         Ok(call_on_self(name, args))
     } else if scope.locals.contains(word.text) {
         Ok(Expr::Local(name))
@@ -194,42 +210,42 @@ fn name<'a>(scope: Scope<'_, 'a>, reader: &mut Reader<'a>) -> Result<Expr, Fault
 
 /// A list, a hash, or an expression in parentheses.
 #[cycle(expression)]
-fn bracket<'a>(scope: Scope<'_, 'a>, reader: &mut Reader<'a>) -> Result<Expr, Fault>
-    requires { opens_bracket (head_sign reader.old) ≡ true }
-    ensures reads { GivesRule (rules.primary (scope_view scope.entry)) reader.old result reader.new }
-    ensures shorter { length reader.new ≤ length reader.old }
-    ensures taken { OnOk result (length reader.new < length reader.old) }
+fn bracket<'a>(scope: Scope<'_, 'a>, cursor: &mut Cursor<'a>) -> Result<Expr, Fault>
+    requires { opens_bracket (head_terminal cursor.old) ≡ true }
+    ensures reads { GivesRule (rules.primary (scope_view scope.entry)) cursor.old result cursor.new }
+    ensures shorter { length cursor.new ≤ length cursor.old }
+    ensures taken { OnOk result (length cursor.new < length cursor.old) }
 {
     let inner = scope.inner()?;
-    if reader.sees(OPEN_BRACKET) {
-        reader.skip();
-        let list = members(inner, reader)?;
-        reader.take(CLOSE_BRACKET)?;
+    if cursor.sees(OPEN_BRACKET) {
+        cursor.skip();
+        let list = members(inner, cursor)?;
+        cursor.take(CLOSE_BRACKET)?;
         Ok(Expr::Array(list))
-    } else if reader.sees(OPEN_BRACE) {
-        reader.skip();
-        let list = pairs(inner, reader)?;
-        reader.take(CLOSE_BRACE)?;
+    } else if cursor.sees(OPEN_BRACE) {
+        cursor.skip();
+        let list = pairs(inner, cursor)?;
+        cursor.take(CLOSE_BRACE)?;
         Ok(Expr::Hash(list))
     } else {
-        reader.skip();
-        let x = expression(inner, reader)?;
-        reader.take(CLOSE_PAREN)?;
+        cursor.skip();
+        let x = expression(inner, cursor)?;
+        cursor.take(CLOSE_PAREN)?;
         Ok(x)
     }
 }
 
 /// A text in single or double quotes.
 #[cycle(expression)]
-fn text<'a>(scope: Scope<'_, 'a>, reader: &mut Reader<'a>) -> Result<Expr, Fault>
-    requires { head_sign reader.old ≡ 56 }
-    ensures reads { GivesRule (rules.primary (scope_view scope.entry)) reader.old result reader.new }
-    ensures shorter { length reader.new ≤ length reader.old }
-    ensures taken { OnOk result (length reader.new < length reader.old) }
+fn text<'a>(scope: Scope<'_, 'a>, cursor: &mut Cursor<'a>) -> Result<Expr, Fault>
+    requires { head_terminal cursor.old ≡ 56 }
+    ensures reads { GivesRule (rules.primary (scope_view scope.entry)) cursor.old result cursor.new }
+    ensures shorter { length cursor.new ≤ length cursor.old }
+    ensures taken { OnOk result (length cursor.new < length cursor.old) }
 {
-    let open = reader.taken(TEXT_OPEN)?;
-    let parts = text_parts(scope, is_double(open.text), reader)?;
-    reader.take(TEXT_CLOSE)?;
+    let open = cursor.take_word(TEXT_OPEN)?;
+    let parts = text_parts(scope, is_double(open.text), cursor)?;
+    cursor.take(TEXT_CLOSE)?;
     Ok(Expr::Str(parts))
 }
 
@@ -248,21 +264,21 @@ fn is_double(quote: &[u8]) -> bool
 fn text_parts<'a>(
     scope: Scope<'_, 'a>,
     is_double: bool,
-    reader: &mut Reader<'a>,
+    cursor: &mut Cursor<'a>,
 ) -> Result<Parts, Fault>
-    ensures reads { GivesRule (rules.text_parts (scope_view scope.entry) is_double []) reader.old result reader.new }
-    ensures shorter { length reader.new ≤ length reader.old }
+    ensures reads { GivesRule (rules.text_parts (scope_view scope.entry) is_double []) cursor.old result cursor.new }
+    ensures shorter { length cursor.new ≤ length cursor.old }
 {
     let mut parts = Parts::new(scope.alloc);
     'parts: loop {
-        if reader.sees(TEXT_PIECE) {
-            let piece = reader.taken(TEXT_PIECE)?;
-            parts.push(plain(scope.alloc, is_double, piece.text)?)?;
-        } else if reader.sees(INSIDE_OPEN) {
+        if cursor.sees(TEXT_PIECE) {
+            let piece = cursor.take_word(TEXT_PIECE)?;
+            parts.push(plain_part(scope.alloc, is_double, piece.text)?)?;
+        } else if cursor.sees(INSIDE_OPEN) {
             let inner = scope.inner()?;
-            reader.skip();
-            parts.push(Part::Inside(expression(inner, reader)?))?;
-            reader.take(INSIDE_CLOSE)?;
+            cursor.skip();
+            parts.push(Part::Inside(expression(inner, cursor)?))?;
+            cursor.take(INSIDE_CLOSE)?;
         } else {
             return Ok(parts);
         }

@@ -13,7 +13,7 @@ use Rattle.ruby_grammar.specs.Rules.{simple_statement, perhaps_expression, expre
 use Rattle.ruby_grammar.specs.Values.{behind_sign}
 use Rattle.ruby_grammar.specs.Statements.{known, scope, scope_of, returning, raising, setting, setting_ivar, evaluating}
 use Rattle.ruby_grammar.specs.Choices.{ruby_choices, next_is, pick_set_ivar}
-use Rattle.ruby_parse_cursor.specs.Views.{head_sign, expression_sign}
+use Rattle.ruby_parse_cursor.specs.Views.{head_terminal, expression_terminal}
 use Rattle.ruby_parse_cursor.specs.declared.fault.Fault.{Fault}
 use Rattle.ruby_parse_cursor.specs.declared.fault.Fault.TheVariants as f
 use Rattle.ruby_parse_steps.specs.Gives.{Gives, GivesRule}
@@ -23,26 +23,26 @@ use Rattle.ruby_parse_statement.proofs.Steps.{skips, passes, lacks, value, value
 
 -- ---- an expression, perhaps
 module _ (here : Scope) where
-  perhaps_chosen : (ws : List Word) (b : Bool) → expression_sign (head_sign ws) ≡ b →
+  perhaps_chosen : (ws : List Word) (b : Bool) → expression_terminal (head_terminal ws) ≡ b →
       choose ruby_choices (perhaps_expression here) ws ≡ cond b (take (call (expression here) λ x. give (Some x)))
       (take (give None))
   perhaps_chosen ws b e = ap (λ b. cond b (take (call (expression here) λ x. give (Some x))) (take (give None)))
       (starts_is ws ∙ e)
 
-  pub some_expression : (x : Expr) (ws rest : List Word) → expression_sign (head_sign ws) ≡ true →
+  pub some_expression : (x : Expr) (ws rest : List Word) → expression_terminal (head_terminal ws) ≡ true →
       GivesRule (expression here) ws (Ok x) rest → GivesRule (perhaps_expression here) ws (Ok (Some x)) rest
   some_expression x ws rest p g = g_chosen {s = perhaps_an_expression} (perhaps_expression here)
       (call (expression here) λ x. give (Some x)) ws rest (Ok (Some x)) (perhaps_chosen ws true p)
       (g_then {s = perhaps_an_expression} (expression here) (λ x. give (Some x)) x ws rest rest (Ok (Some x)) g
       (g_give {s = perhaps_an_expression} (Some x) rest))
 
-  pub some_expression_fails : (e : Fault) (ws rest : List Word) → expression_sign (head_sign ws) ≡ true →
+  pub some_expression_fails : (e : Fault) (ws rest : List Word) → expression_terminal (head_terminal ws) ≡ true →
       GivesRule (expression here) ws (Err e) rest → GivesRule (perhaps_expression here) ws (Err e) rest
   some_expression_fails e ws rest p g = g_chosen {s = perhaps_an_expression} (perhaps_expression here)
       (call (expression here) λ x. give (Some x)) ws rest (Err e) (perhaps_chosen ws true p)
       (g_fails {s = perhaps_an_expression} (expression here) (λ x. give (Some x)) ws rest e g)
 
-  pub no_expression : (ws : List Word) → expression_sign (head_sign ws) ≡ false →
+  pub no_expression : (ws : List Word) → expression_terminal (head_terminal ws) ≡ false →
       GivesRule (perhaps_expression here) ws (Ok None) ws
   no_expression ws p = g_chosen {s = perhaps_an_expression} (perhaps_expression here) (give None) ws ws (Ok None)
       (perhaps_chosen ws false p) (g_give {s = perhaps_an_expression} None ws)

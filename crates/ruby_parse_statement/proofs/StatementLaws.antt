@@ -11,7 +11,7 @@ use Rattle.ruby_grammar.specs.Rules.{Name, Known, Block, Around, a_statement, a_
 use Rattle.ruby_grammar.specs.Rules.{statement, simple_statement, condition_behind}
 use Rattle.ruby_grammar.specs.Statements.{known, block, behind, statement_then, arm_from, if_from, unless_from}
 use Rattle.ruby_grammar.specs.Choices.{ruby_choices, next_is, deepen, starts_statement}
-use Rattle.ruby_parse_cursor.specs.Views.{head_sign, statement_sign}
+use Rattle.ruby_parse_cursor.specs.Views.{head_terminal, statement_terminal}
 use Rattle.ruby_parse_cursor.specs.declared.fault.Fault.{Fault}
 use Rattle.ruby_parse_cursor.specs.declared.fault.Fault.TheVariants as f
 use Rattle.ruby_parse_steps.specs.Gives.{Gives, GivesRule}
@@ -111,25 +111,25 @@ module _ (here : Around) where
       (rule_fails {v = a_statement} (simple_statement here) (λ t. only (condition_behind here.levels t)) e ws rest g)
 
 -- ---- statements
-pub begins_statement : (ws : List Word) → next_is starts_statement (head ws) ≡ statement_sign (head_sign ws)
+pub begins_statement : (ws : List Word) → next_is starts_statement (head ws) ≡ statement_terminal (head_terminal ws)
 begins_statement [] = refl
 begins_statement (w ∷ ws) = refl
 
 module _ (here : Around) (ss : List Stmt) where
-  statements_chosen : (ws : List Word) (b : Bool) → statement_sign (head_sign ws) ≡ b →
+  statements_chosen : (ws : List Word) (b : Bool) → statement_terminal (head_terminal ws) ≡ b →
       choose ruby_choices (statements here ss) ws ≡ cond b (take (statement_then here ss))
       (take (give (block ss here.names true)))
   statements_chosen ws b e =
       ap (λ b. cond b (take (statement_then here ss)) (take (give (block ss here.names true)))) (begins_statement ws
       ∙ e)
 
-  pub statements_end : (ws : List Word) → statement_sign (head_sign ws) ≡ false →
+  pub statements_end : (ws : List Word) → statement_terminal (head_terminal ws) ≡ false →
       GivesRule (statements here ss) ws (Ok (block ss here.names true)) ws
   statements_end ws p = g_chosen {s = a_block} (statements here ss) (give (block ss here.names true)) ws ws
       (Ok (block ss here.names true)) (statements_chosen ws false p)
       (g_give {s = a_block} (block ss here.names true) ws)
 
-  pub statements_break : (e : Fault) (ws rest : List Word) → statement_sign (head_sign ws) ≡ true →
+  pub statements_break : (e : Fault) (ws rest : List Word) → statement_terminal (head_terminal ws) ≡ true →
       GivesRule (statement here) ws (Err e) rest → GivesRule (statements here ss) ws (Err e) rest
   statements_break e ws rest p g = g_chosen {s = a_block} (statements here ss) (statement_then here ss) ws rest
       (Err e) (statements_chosen ws true p)
@@ -137,7 +137,7 @@ module _ (here : Around) (ss : List Stmt) where
       (λ s. only (more_statements (behind here s.names) (ss ++ s.stmt ∷ []))) ws rest e g)
 
   one_more : (s : Stmt) (names : List Name) (ws mid rest : List Word) (r : Result Block Fault) →
-      statement_sign (head_sign ws) ≡ true → GivesRule (statement here) ws (Ok (known s names)) mid →
+      statement_terminal (head_terminal ws) ≡ true → GivesRule (statement here) ws (Ok (known s names)) mid →
       GivesRule (more_statements (behind here names) (ss ++ s ∷ [])) mid r rest →
       GivesRule (statements here ss) ws r rest
   one_more s names ws mid rest r p g h = g_chosen {s = a_block} (statements here ss) (statement_then here ss) ws rest
@@ -146,7 +146,7 @@ module _ (here : Around) (ss : List Stmt) where
       (λ s. only (more_statements (behind here s.names) (ss ++ s.stmt ∷ []))) (known s names) ws mid rest r g h)
 
   pub statement_and_line : (s : Stmt) (names : List Name) (longer : List Stmt) (ws mid rest end : List Word)
-      (r : Result Block Fault) → statement_sign (head_sign ws) ≡ true →
+      (r : Result Block Fault) → statement_terminal (head_terminal ws) ≡ true →
       GivesRule (statement here) ws (Ok (known s names)) mid →
       longer ≡ ss ++ s ∷ [] → next_is is_line (head mid) ≡ true → rest ≡ drop 1 mid →
       GivesRule (statements (behind here names) longer) rest r end → GivesRule (statements here ss) ws r end
@@ -158,7 +158,7 @@ module _ (here : Around) (ss : List Stmt) where
       (λ _. subst (λ l. GivesRule (statements (behind here names) l) rest r end) l h)))
 
   pub statement_without_line : (s : Stmt) (names : List Name) (longer : List Stmt) (ws mid : List Word) →
-      statement_sign (head_sign ws) ≡ true → GivesRule (statement here) ws (Ok (known s names)) mid →
+      statement_terminal (head_terminal ws) ≡ true → GivesRule (statement here) ws (Ok (known s names)) mid →
       longer ≡ ss ++ s ∷ [] → next_is is_line (head mid) ≡ false →
       GivesRule (statements here ss) ws (Ok (block longer names false)) mid
   statement_without_line s names longer ws mid p g l q =

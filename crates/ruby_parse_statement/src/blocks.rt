@@ -10,8 +10,8 @@ ghost use Rattle.ruby_parse_steps.specs.Gives.{GivesRule};
 ghost use Rattle.ruby_parse_statement.specs.Arms.{tested, GivesTest};
 
 use crate::body::Body;
-use ruby_parse_cursor::signs::LINE;
-use ruby_parse_cursor::{Fault, Locals, Reader};
+use ruby_parse_cursor::terminals::LINE;
+use ruby_parse_cursor::{Cursor, Fault, Locals};
 use ruby_parse_steps::negated;
 use ruby_types::{Arms, Expr, Stmts};
 use ruby_words::{ELSE, ELSIF, IF, THEN, UNLESS};
@@ -25,10 +25,10 @@ pub struct Block {
 }
 
 /// Whether `if` or `unless` is at hand.
-pub fn begins_block(reader: &Reader<'_>) -> bool
-    ensures { result ≡ (next_is is_if (head reader.now) || next_is is_unless (head reader.now)) }
+pub fn begins_block(cursor: &Cursor<'_>) -> bool
+    ensures { result ≡ (next_is is_if (head cursor.now) || next_is is_unless (head cursor.now)) }
 {
-    reader.sees(IF) || reader.sees(UNLESS)
+    cursor.sees(IF) || cursor.sees(UNLESS)
 }
 
 /// Adds an arm.
@@ -51,55 +51,55 @@ fn tested(alloc: Global, is_unless: bool, test: Expr) -> Result<Expr, AllocError
 }
 
 /// Passes over a Line, if one is at hand.
-pub fn perhaps_line(reader: &mut Reader<'_>)
-    ensures reads { GivesRule rules.perhaps_line reader.old (Ok tt) reader.new }
-    ensures shorter { length reader.new ≤ length reader.old }
+pub fn perhaps_line(cursor: &mut Cursor<'_>)
+    ensures reads { GivesRule rules.perhaps_line cursor.old (Ok tt) cursor.new }
+    ensures shorter { length cursor.new ≤ length cursor.old }
 {
-    if reader.sees(LINE) {
-        reader.skip();
+    if cursor.sees(LINE) {
+        cursor.skip();
     }
 }
 
 /// `then`, perhaps with a Line behind it, or a Line.
-fn then_or_line(reader: &mut Reader<'_>) -> Result<(), Fault>
-    ensures reads { GivesRule rules.then_or_line reader.old result reader.new }
-    ensures shorter { length reader.new ≤ length reader.old }
+fn then_or_line(cursor: &mut Cursor<'_>) -> Result<(), Fault>
+    ensures reads { GivesRule rules.then_or_line cursor.old result cursor.new }
+    ensures shorter { length cursor.new ≤ length cursor.old }
 {
-    if reader.sees(THEN) {
-        reader.skip();
-        perhaps_line(reader);
+    if cursor.sees(THEN) {
+        cursor.skip();
+        perhaps_line(cursor);
         Ok(())
     } else {
-        reader.take(LINE)
+        cursor.take(LINE)
     }
 }
 
 /// A condition, which `unless` turns round, with its `then` or Line.
-pub fn test<'a>(
+pub fn arm_condition<'a>(
     body: Body,
     is_unless: bool,
     locals: &Locals<'a>,
-    reader: &mut Reader<'a>,
+    cursor: &mut Cursor<'a>,
 ) -> Result<Expr, Fault>
-    ensures reads { GivesTest (scope body.levels locals.now) is_unless reader.old result reader.new }
-    ensures shorter { length reader.new ≤ length reader.old }
+    ensures reads { GivesTest (scope body.levels locals.now) is_unless cursor.old result cursor.new }
+    ensures shorter { length cursor.new ≤ length cursor.old }
 {
-    let test = body.expression(locals, reader)?;
+    let test = body.expression(locals, cursor)?;
     let test = tested(body.alloc, is_unless, test)?;
-    then_or_line(reader)?;
+    then_or_line(cursor)?;
     Ok(test)
 }
 
 /// Whether an `elsif` is at hand that goes on with the arms.
-pub fn goes_on(closed: bool, is_unless: bool, reader: &Reader<'_>) -> bool
-    ensures { result ≡ (closed && (not is_unless && next_is is_elsif (head reader.now))) }
+pub fn goes_on(closed: bool, is_unless: bool, cursor: &Cursor<'_>) -> bool
+    ensures { result ≡ (closed && (not is_unless && next_is is_elsif (head cursor.now))) }
 {
-    closed && !is_unless && reader.sees(ELSIF)
+    closed && !is_unless && cursor.sees(ELSIF)
 }
 
 /// Whether an `else` is at hand that may follow the arms.
-pub fn has_else(closed: bool, reader: &Reader<'_>) -> bool
-    ensures { result ≡ (closed && next_is is_else (head reader.now)) }
+pub fn has_else(closed: bool, cursor: &Cursor<'_>) -> bool
+    ensures { result ≡ (closed && next_is is_else (head cursor.now)) }
 {
-    closed && reader.sees(ELSE)
+    closed && cursor.sees(ELSE)
 }

@@ -6,8 +6,8 @@ ghost use Rattle.ruby_grammar.specs.Statements.{scope};
 ghost use Rattle.ruby_parse_steps.specs.Gives.{GivesRule};
 ghost use Rattle.ruby_parse_steps.specs.Scopes.{scope_view};
 
-use ruby_parse_cursor::signs::starts_expression;
-use ruby_parse_cursor::{Fault, Locals, Reader};
+use ruby_parse_cursor::terminals::starts_expression;
+use ruby_parse_cursor::{Cursor, Fault, Locals};
 use ruby_parse_expression::expression;
 use ruby_parse_steps::{Scope, opened};
 use ruby_types::Expr;
@@ -34,31 +34,31 @@ impl Body {
     }
 
     /// An expression here, where these variables are known.
-    pub fn expression<'a>(self, locals: &Locals<'a>, reader: &mut Reader<'a>) -> Result<Expr, Fault>
-        ensures reads { GivesRule (rules.expression (scope self.levels locals.now)) reader.old result reader.new }
-        ensures shorter { length reader.new ≤ length reader.old }
-        ensures taken { OnOk result (length reader.new < length reader.old) }
+    pub fn expression<'a>(self, locals: &Locals<'a>, cursor: &mut Cursor<'a>) -> Result<Expr, Fault>
+        ensures reads { GivesRule (rules.expression (scope self.levels locals.now)) cursor.old result cursor.new }
+        ensures shorter { length cursor.new ≤ length cursor.old }
+        ensures taken { OnOk result (length cursor.new < length cursor.old) }
     {
         let scope = Scope {
             alloc: self.alloc,
             levels: self.levels,
             locals,
         };
-        expression(scope, reader)
+        expression(scope, cursor)
     }
 
     /// An expression, if one is at hand.
     pub fn perhaps_expression<'a>(
         self,
         locals: &Locals<'a>,
-        reader: &mut Reader<'a>,
+        cursor: &mut Cursor<'a>,
     ) -> Result<Option<Expr>, Fault>
-        ensures reads { GivesRule (rules.perhaps_expression (scope self.levels locals.now)) reader.old result
-            reader.new }
-        ensures shorter { length reader.new ≤ length reader.old }
+        ensures reads { GivesRule (rules.perhaps_expression (scope self.levels locals.now)) cursor.old result
+            cursor.new }
+        ensures shorter { length cursor.new ≤ length cursor.old }
     {
-        if starts_expression(reader.sign()) {
-            Ok(Some(self.expression(locals, reader)?))
+        if starts_expression(cursor.peek_terminal()) {
+            Ok(Some(self.expression(locals, cursor)?))
         } else {
             Ok(None)
         }

@@ -10,15 +10,15 @@ ghost use Rattle.ruby_parse_statement.specs.Answers.{known_as, conditioned, Give
 ghost use Rattle.ruby_parse_statement.specs.Places.{around_view};
 
 use crate::body::Body;
-use crate::simple::simple;
-use ruby_parse_cursor::{Fault, Locals, Reader};
+use crate::simple::simple_statement;
+use ruby_parse_cursor::{Cursor, Fault, Locals};
 use ruby_parse_steps::negated;
 use ruby_types::{Arms, Expr, Stmt, Stmts};
 use ruby_words::{IF, UNLESS};
 use std::alloc::{AllocError, Global};
 
 /// An `if` with one arm behind its statement.
-fn behind(alloc: Global, test: Expr, statement: Stmt) -> Result<Stmt, AllocError>
+fn if_behind(alloc: Global, test: Expr, statement: Stmt) -> Result<Stmt, AllocError>
     ensures { IfOk result (λ s. s ≡ Stmt.If ((test, statement ∷ []) ∷ []) [] true) }
 {
     let mut statements = Stmts::new(alloc);
@@ -33,30 +33,34 @@ fn behind(alloc: Global, test: Expr, statement: Stmt) -> Result<Stmt, AllocError
 }
 
 /// The statement with the condition behind it, if there is one.
-fn conditioned(alloc: Global, statement: Stmt, condition: Option<Expr>) -> Result<Stmt, AllocError>
+fn with_condition(
+    alloc: Global,
+    statement: Stmt,
+    condition: Option<Expr>,
+) -> Result<Stmt, AllocError>
     ensures { IfOk result (λ s. s ≡ conditioned statement condition) }
 {
     match condition {
         None => Ok(statement),
-        Some(test) => behind(alloc, test, statement),
+        Some(test) => if_behind(alloc, test, statement),
     }
 }
 
 /// Perhaps `if` or `unless` and a condition, which `unless` turns round.
-fn condition<'a>(
+fn perhaps_condition<'a>(
     body: Body,
     locals: &Locals<'a>,
-    reader: &mut Reader<'a>,
+    cursor: &mut Cursor<'a>,
 ) -> Result<Option<Expr>, Fault>
-    ensures reads { GivesCondition body.levels locals.now reader.old result reader.new }
-    ensures shorter { length reader.new ≤ length reader.old }
+    ensures reads { GivesCondition body.levels locals.now cursor.old result cursor.new }
+    ensures shorter { length cursor.new ≤ length cursor.old }
 {
-    if reader.sees(IF) {
-        reader.skip();
-        Ok(Some(body.expression(locals, reader)?))
-    } else if reader.sees(UNLESS) {
-        reader.skip();
-        let test = body.expression(locals, reader)?;
+    if cursor.sees(IF) {
+        cursor.skip();
+        Ok(Some(body.expression(locals, cursor)?))
+    } else if cursor.sees(UNLESS) {
+        cursor.skip();
+        let test = body.expression(locals, cursor)?;
         Ok(Some(negated(body.alloc, test)?))
     } else {
         Ok(None)
@@ -64,17 +68,17 @@ fn condition<'a>(
 }
 
 /// A simple statement, perhaps with `if` or `unless` and a condition behind it.
-pub fn plain<'a>(
+pub fn statement_without_block<'a>(
     body: Body,
     locals: &mut Locals<'a>,
-    reader: &mut Reader<'a>,
+    cursor: &mut Cursor<'a>,
 ) -> Result<Stmt, Fault>
-    requires { (next_is is_if (head reader.old) || next_is is_unless (head reader.old)) ≡ false }
-    ensures reads { GivesRule (rules.statement (around_view body locals.old)) reader.old
-        (known_as locals.new result) reader.new }
-    ensures shorter { length reader.new ≤ length reader.old }
+    requires { (next_is is_if (head cursor.old) || next_is is_unless (head cursor.old)) ≡ false }
+    ensures reads { GivesRule (rules.statement (around_view body locals.old)) cursor.old
+        (known_as locals.new result) cursor.new }
+    ensures shorter { length cursor.new ≤ length cursor.old }
 {
-    let statement = simple(body, locals, reader)?;
-    let condition = condition(body, locals, reader)?;
-    Ok(conditioned(body.alloc, statement, condition)?)
+    let statement = simple_statement(body, locals, cursor)?;
+    let condition = perhaps_condition(body, locals, cursor)?;
+    Ok(with_condition(body.alloc, statement, condition)?)
 }

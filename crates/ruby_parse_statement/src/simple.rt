@@ -13,139 +13,143 @@ ghost use Rattle.ruby_parse_statement.specs.Places.{around_view};
 
 use crate::body::Body;
 use case_table::cases;
-use ruby_parse_cursor::signs::{ASSIGN, IVAR, NAME};
-use ruby_parse_cursor::{Fault, Locals, Reader, Word, behind_sign, ends_in_suffix};
+use ruby_parse_cursor::terminals::{ASSIGN, IVAR, NAME};
+use ruby_parse_cursor::{Cursor, Fault, Locals, Word, behind_sign, ends_in_suffix};
 use ruby_types::{Stmt, Text};
 use ruby_words::{RAISE, RETURN};
 
 /// `return` with perhaps a value.
-fn returned<'a>(body: Body, locals: &Locals<'a>, reader: &mut Reader<'a>) -> Result<Stmt, Fault>
-    ensures reads { Gives (returning (around_view body locals.now)) reader.old (known_as locals.now result) reader.new }
-    ensures shorter { length reader.new ≤ length reader.old }
+fn returned<'a>(body: Body, locals: &Locals<'a>, cursor: &mut Cursor<'a>) -> Result<Stmt, Fault>
+    ensures reads { Gives (returning (around_view body locals.now)) cursor.old (known_as locals.now result) cursor.new }
+    ensures shorter { length cursor.new ≤ length cursor.old }
 {
-    reader.take(RETURN)?;
-    Ok(Stmt::Return(body.perhaps_expression(locals, reader)?))
+    cursor.take(RETURN)?;
+    Ok(Stmt::Return(body.perhaps_expression(locals, cursor)?))
 }
 
-fn raised<'a>(body: Body, locals: &Locals<'a>, reader: &mut Reader<'a>) -> Result<Stmt, Fault>
-    ensures reads { Gives (raising (around_view body locals.now)) reader.old (known_as locals.now result) reader.new }
-    ensures shorter { length reader.new ≤ length reader.old }
+fn raised<'a>(body: Body, locals: &Locals<'a>, cursor: &mut Cursor<'a>) -> Result<Stmt, Fault>
+    ensures reads { Gives (raising (around_view body locals.now)) cursor.old (known_as locals.now result) cursor.new }
+    ensures shorter { length cursor.new ≤ length cursor.old }
 {
-    reader.take(RAISE)?;
-    Ok(Stmt::Raise(body.expression(locals, reader)?))
+    cursor.take(RAISE)?;
+    Ok(Stmt::Raise(body.expression(locals, cursor)?))
 }
 
 /// An expression alone.
-fn evaluated<'a>(body: Body, locals: &Locals<'a>, reader: &mut Reader<'a>) -> Result<Stmt, Fault>
-    ensures reads { Gives (evaluating (around_view body locals.now)) reader.old
-        (known_as locals.now result) reader.new }
-    ensures shorter { length reader.new ≤ length reader.old }
+fn evaluated<'a>(body: Body, locals: &Locals<'a>, cursor: &mut Cursor<'a>) -> Result<Stmt, Fault>
+    ensures reads { Gives (evaluating (around_view body locals.now)) cursor.old
+        (known_as locals.now result) cursor.new }
+    ensures shorter { length cursor.new ≤ length cursor.old }
 {
-    Ok(Stmt::Expr(body.expression(locals, reader)?))
+    Ok(Stmt::Expr(body.expression(locals, cursor)?))
 }
 
 /// Whether a name that can be a variable is at hand. With a suffix it can't be one.
-fn sees_variable(reader: &Reader<'_>) -> bool
-    ensures { result ≡ next_is is_variable (head reader.now) }
+fn sees_variable(cursor: &Cursor<'_>) -> bool
+    ensures { result ≡ next_is is_variable (head cursor.now) }
 {
-    match reader.word() {
-        Some(word) => reader.sees(NAME) && !ends_in_suffix(word.text),
+    match cursor.peek_word() {
+        Some(word) => cursor.sees(NAME) && !ends_in_suffix(word.text),
         None => false,
     }
 }
 
 /// Passes over a name that can be a variable, which has to be at hand, and gives it.
-fn variable<'a>(reader: &mut Reader<'a>) -> Result<Word<'a>, Fault>
-    ensures ok { IfOk result (λ w. reader.old ≡ word_view w ∷ reader.new) }
+fn take_variable<'a>(cursor: &mut Cursor<'a>) -> Result<Word<'a>, Fault>
+    ensures ok { IfOk result (λ w. cursor.old ≡ word_view w ∷ cursor.new) }
     ensures variable { IfOk result (λ w. is_variable (word_view w) ≡ true) }
     ensures fault { IfErr result (λ e. e ≡ Fault.Unexpected) }
-    ensures stays { OnErr result (reader.new ≡ reader.old) }
-    ensures other { OnErr result (next_is is_variable (head reader.old) ≡ false) }
+    ensures stays { OnErr result (cursor.new ≡ cursor.old) }
+    ensures other { OnErr result (next_is is_variable (head cursor.old) ≡ false) }
 {
-    if sees_variable(reader) {
-        reader.taken(NAME)
+    if sees_variable(cursor) {
+        cursor.take_word(NAME)
     } else {
         Err(Fault::Unexpected)
     }
 }
 
 /// `name = value`. The name is a variable from its `=` on.
-fn set<'a>(body: Body, locals: &mut Locals<'a>, reader: &mut Reader<'a>) -> Result<Stmt, Fault>
-    ensures reads { Gives (setting (around_view body locals.old)) reader.old (known_as locals.new result) reader.new }
-    ensures shorter { length reader.new ≤ length reader.old }
+fn set_local<'a>(
+    body: Body,
+    locals: &mut Locals<'a>,
+    cursor: &mut Cursor<'a>,
+) -> Result<Stmt, Fault>
+    ensures reads { Gives (setting (around_view body locals.old)) cursor.old (known_as locals.new result) cursor.new }
+    ensures shorter { length cursor.new ≤ length cursor.old }
 {
-    let word = variable(reader)?;
-    reader.take(ASSIGN)?;
+    let word = take_variable(cursor)?;
+    cursor.take(ASSIGN)?;
     let name = Text::from_bytes(body.alloc, word.text)?;
     locals.insert(word.text)?;
-    let value = body.expression(locals, reader)?;
+    let value = body.expression(locals, cursor)?;
     Ok(Stmt::Set { name, value })
 }
 
 /// `@name = value`
-fn set_ivar<'a>(body: Body, locals: &Locals<'a>, reader: &mut Reader<'a>) -> Result<Stmt, Fault>
-    ensures reads { Gives (setting_ivar (around_view body locals.now)) reader.old
-        (known_as locals.now result) reader.new }
-    ensures shorter { length reader.new ≤ length reader.old }
+fn set_ivar<'a>(body: Body, locals: &Locals<'a>, cursor: &mut Cursor<'a>) -> Result<Stmt, Fault>
+    ensures reads { Gives (setting_ivar (around_view body locals.now)) cursor.old
+        (known_as locals.now result) cursor.new }
+    ensures shorter { length cursor.new ≤ length cursor.old }
 {
-    let word = reader.taken(IVAR)?;
-    reader.take(ASSIGN)?;
+    let word = cursor.take_word(IVAR)?;
+    cursor.take(ASSIGN)?;
     let name = Text::from_bytes(body.alloc, behind_sign(word.text))?;
-    let value = body.expression(locals, reader)?;
+    let value = body.expression(locals, cursor)?;
     Ok(Stmt::SetIvar { name, value })
 }
 
 /// Whether a variable and `=` are at hand.
-fn sets(reader: &Reader<'_>) -> bool
-    ensures { result ≡ (next_is is_variable (head reader.now) && next_is is_assign (second reader.now)) }
+fn sets(cursor: &Cursor<'_>) -> bool
+    ensures { result ≡ (next_is is_variable (head cursor.now) && next_is is_assign (second cursor.now)) }
 {
-    sees_variable(reader) && reader.assigns()
+    sees_variable(cursor) && cursor.sees_assign_behind()
 }
 
 /// Whether an instance variable and `=` are at hand.
-fn sets_ivar(reader: &Reader<'_>) -> bool
-    ensures { result ≡ (next_is is_ivar (head reader.now) && next_is is_assign (second reader.now)) }
+fn sets_ivar(cursor: &Cursor<'_>) -> bool
+    ensures { result ≡ (next_is is_ivar (head cursor.now) && next_is is_assign (second cursor.now)) }
 {
-    reader.sees(IVAR) && reader.assigns()
+    cursor.sees(IVAR) && cursor.sees_assign_behind()
 }
 
 /// `name = value`, `@name = value`, which may stand in `initialize` alone, or an expression.
 fn set_or_evaluated<'a>(
     body: Body,
     locals: &mut Locals<'a>,
-    reader: &mut Reader<'a>,
+    cursor: &mut Cursor<'a>,
 ) -> Result<Stmt, Fault>
-    requires no_return { next_is is_return (head reader.old) ≡ false }
-    requires no_raise { next_is is_raise (head reader.old) ≡ false }
-    ensures reads { GivesRule (rules.simple_statement (around_view body locals.old)) reader.old
-        (known_as locals.new result) reader.new }
-    ensures shorter { length reader.new ≤ length reader.old }
+    requires no_return { next_is is_return (head cursor.old) ≡ false }
+    requires no_raise { next_is is_raise (head cursor.old) ≡ false }
+    ensures reads { GivesRule (rules.simple_statement (around_view body locals.old)) cursor.old
+        (known_as locals.new result) cursor.new }
+    ensures shorter { length cursor.new ≤ length cursor.old }
 {
-    if sets(reader) {
-        set(body, locals, reader)
-    } else if !sets_ivar(reader) {
-        evaluated(body, locals, reader)
+    if sets(cursor) {
+        set_local(body, locals, cursor)
+    } else if !sets_ivar(cursor) {
+        evaluated(body, locals, cursor)
     } else if body.may_set {
-        set_ivar(body, locals, reader)
+        set_ivar(body, locals, cursor)
     } else {
-        reader.skip();
+        cursor.skip();
         Err(Fault::Barred)
     }
 }
 
 /// What has no `if` or `unless` of its own.
-pub fn simple<'a>(
+pub fn simple_statement<'a>(
     body: Body,
     locals: &mut Locals<'a>,
-    reader: &mut Reader<'a>,
+    cursor: &mut Cursor<'a>,
 ) -> Result<Stmt, Fault>
-    ensures reads { GivesRule (rules.simple_statement (around_view body locals.old)) reader.old
-        (known_as locals.new result) reader.new }
-    ensures shorter { length reader.new ≤ length reader.old }
+    ensures reads { GivesRule (rules.simple_statement (around_view body locals.old)) cursor.old
+        (known_as locals.new result) cursor.new }
+    ensures shorter { length cursor.new ≤ length cursor.old }
 {
-    cases!(reader.code();
-        RETURN => returned(body, locals, reader),
-        RAISE => raised(body, locals, reader);
-        set_or_evaluated(body, locals, reader)
+    cases!(cursor.peek_code();
+        RETURN => returned(body, locals, cursor),
+        RAISE => raised(body, locals, cursor);
+        set_or_evaluated(body, locals, cursor)
     )
 }

@@ -10,11 +10,11 @@ ghost use Rattle.ruby_parse_statement.specs.Answers.{known_as, block_as};
 ghost use Rattle.ruby_parse_statement.specs.Places.{around_view};
 ghost use Rattle.ruby_parse_statement.specs.Arms.{arm_then, GivesArms, GivesElse};
 
-use crate::blocks::{Block, add_arm, begins_block, goes_on, has_else, perhaps_line, test};
+use crate::blocks::{Block, add_arm, arm_condition, begins_block, goes_on, has_else, perhaps_line};
 use crate::body::Body;
-use crate::conditions::plain;
-use ruby_parse_cursor::signs::{LINE, starts_statement};
-use ruby_parse_cursor::{Fault, Locals, Reader};
+use crate::conditions::statement_without_block;
+use ruby_parse_cursor::terminals::{LINE, starts_statement};
+use ruby_parse_cursor::{Cursor, Fault, Locals};
 use ruby_types::{Arms, Stmt, Stmts};
 use ruby_words::{ELSE, END, UNLESS};
 
@@ -23,22 +23,22 @@ use ruby_words::{ELSE, END, UNLESS};
 pub fn statements<'a>(
     body: Body,
     locals: &mut Locals<'a>,
-    reader: &mut Reader<'a>,
+    cursor: &mut Cursor<'a>,
 ) -> Result<Block, Fault>
-    ensures reads { GivesRule (rules.statements (around_view body locals.old) []) reader.old
-        (block_as locals.new result) reader.new }
-    ensures shorter { length reader.new ≤ length reader.old }
+    ensures reads { GivesRule (rules.statements (around_view body locals.old) []) cursor.old
+        (block_as locals.new result) cursor.new }
+    ensures shorter { length cursor.new ≤ length cursor.old }
 {
     let mut statements = Stmts::new(body.alloc);
-    'lines: while starts_statement(reader.sign()) {
-        statements.push(statement(body, locals, reader)?)?;
-        if !reader.sees(LINE) {
+    'lines: while starts_statement(cursor.peek_terminal()) {
+        statements.push(statement(body, locals, cursor)?)?;
+        if !cursor.sees(LINE) {
             return Ok(Block {
                 statements,
                 closed: false,
             });
         }
-        reader.skip();
+        cursor.skip();
     }
     Ok(Block {
         statements,
@@ -50,19 +50,19 @@ pub fn statements<'a>(
 fn statement<'a>(
     body: Body,
     locals: &mut Locals<'a>,
-    reader: &mut Reader<'a>,
+    cursor: &mut Cursor<'a>,
 ) -> Result<Stmt, Fault>
-    ensures reads { GivesRule (rules.statement (around_view body locals.old)) reader.old
-        (known_as locals.new result) reader.new }
-    ensures shorter { length reader.new ≤ length reader.old }
+    ensures reads { GivesRule (rules.statement (around_view body locals.old)) cursor.old
+        (known_as locals.new result) cursor.new }
+    ensures shorter { length cursor.new ≤ length cursor.old }
 {
-    if begins_block(reader) {
-        let is_unless = reader.sees(UNLESS);
+    if begins_block(cursor) {
+        let is_unless = cursor.sees(UNLESS);
         let inner = body.inner()?;
-        reader.skip();
-        branches(inner, is_unless, locals, reader)
+        cursor.skip();
+        branches(inner, is_unless, locals, cursor)
     } else {
-        plain(body, locals, reader)
+        statement_without_block(body, locals, cursor)
     }
 }
 
@@ -72,23 +72,23 @@ fn branches<'a>(
     body: Body,
     is_unless: bool,
     locals: &mut Locals<'a>,
-    reader: &mut Reader<'a>,
+    cursor: &mut Cursor<'a>,
 ) -> Result<Stmt, Fault>
-    ensures reads { Gives (arm_then (around_view body locals.old) is_unless []) reader.old
-        (known_as locals.new result) reader.new }
-    ensures shorter { length reader.new ≤ length reader.old }
+    ensures reads { Gives (arm_then (around_view body locals.old) is_unless []) cursor.old
+        (known_as locals.new result) cursor.new }
+    ensures shorter { length cursor.new ≤ length cursor.old }
 {
     let mut list = Arms::new(body.alloc);
-    let closed = arms(body, is_unless, &mut list, locals, reader)?;
-    if has_else(closed, reader) {
-        let other = otherwise(body, locals, reader)?;
+    let closed = arms(body, is_unless, &mut list, locals, cursor)?;
+    if has_else(closed, cursor) {
+        let other = otherwise(body, locals, cursor)?;
         return Ok(Stmt::If {
             arms: list,
             other,
             after: false,
         });
     }
-    reader.take(END)?;
+    cursor.take(END)?;
     Ok(Stmt::If {
         arms: list,
         other: Stmts::new(body.alloc),
@@ -103,17 +103,17 @@ fn arms<'a>(
     is_unless: bool,
     list: &mut Arms,
     locals: &mut Locals<'a>,
-    reader: &mut Reader<'a>,
+    cursor: &mut Cursor<'a>,
 ) -> Result<bool, Fault>
-    ensures reads { GivesArms (around_view body locals.old) is_unless list.old reader.old result list.new locals.new
-        reader.new }
-    ensures last { IfOk result (λ closed. (closed && (not is_unless && next_is is_elsif (head reader.new))) ≡ false) }
-    ensures shorter { length reader.new ≤ length reader.old }
+    ensures reads { GivesArms (around_view body locals.old) is_unless list.old cursor.old result list.new locals.new
+        cursor.new }
+    ensures last { IfOk result (λ closed. (closed && (not is_unless && next_is is_elsif (head cursor.new))) ≡ false) }
+    ensures shorter { length cursor.new ≤ length cursor.old }
 {
-    let mut closed = arm(body, is_unless, list, locals, reader)?;
-    'further: while goes_on(closed, is_unless, reader) {
-        reader.skip();
-        closed = arm(body, false, list, locals, reader)?;
+    let mut closed = arm(body, is_unless, list, locals, cursor)?;
+    'further: while goes_on(closed, is_unless, cursor) {
+        cursor.skip();
+        closed = arm(body, false, list, locals, cursor)?;
     }
     Ok(closed)
 }
@@ -125,14 +125,14 @@ fn arm<'a>(
     is_unless: bool,
     list: &mut Arms,
     locals: &mut Locals<'a>,
-    reader: &mut Reader<'a>,
+    cursor: &mut Cursor<'a>,
 ) -> Result<bool, Fault>
-    ensures reads { GivesArms (around_view body locals.old) is_unless list.old reader.old result list.new locals.new
-        reader.new }
-    ensures shorter { length reader.new ≤ length reader.old }
+    ensures reads { GivesArms (around_view body locals.old) is_unless list.old cursor.old result list.new locals.new
+        cursor.new }
+    ensures shorter { length cursor.new ≤ length cursor.old }
 {
-    let test = test(body, is_unless, locals, reader)?;
-    let block = statements(body, locals, reader)?;
+    let test = arm_condition(body, is_unless, locals, cursor)?;
+    let block = statements(body, locals, cursor)?;
     let closed = block.closed;
     add_arm(list, test, block.statements)?;
     Ok(closed)
@@ -143,14 +143,14 @@ fn arm<'a>(
 fn otherwise<'a>(
     body: Body,
     locals: &mut Locals<'a>,
-    reader: &mut Reader<'a>,
+    cursor: &mut Cursor<'a>,
 ) -> Result<Stmts, Fault>
-    ensures reads { GivesElse (around_view body locals.old) reader.old result locals.new reader.new }
-    ensures shorter { length reader.new ≤ length reader.old }
+    ensures reads { GivesElse (around_view body locals.old) cursor.old result locals.new cursor.new }
+    ensures shorter { length cursor.new ≤ length cursor.old }
 {
-    reader.take(ELSE)?;
-    perhaps_line(reader);
-    let block = statements(body, locals, reader)?;
-    reader.take(END)?;
+    cursor.take(ELSE)?;
+    perhaps_line(cursor);
+    let block = statements(body, locals, cursor)?;
+    cursor.take(END)?;
     Ok(block.statements)
 }

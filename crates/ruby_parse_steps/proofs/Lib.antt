@@ -7,3 +7,4 @@ pub mod ArgumentLaws
 pub mod PrimaryLaws
 pub mod EnclosedLaws
 pub mod NameLaws
+pub mod LevelLaws

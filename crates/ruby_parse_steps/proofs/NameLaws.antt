@@ -12,7 +12,7 @@ use Rattle.ruby_grammar.specs.Rules.{members}
 use Rattle.ruby_grammar.specs.Values.{name_alone}
 use Rattle.ruby_grammar.specs.Expressions.{at_levels, arguments_from, call_from}
 use Rattle.ruby_grammar.specs.Choices.{ruby_choices, next_is, deepen}
-use Rattle.ruby_parse_cursor.specs.Views.{head_sign}
+use Rattle.ruby_parse_cursor.specs.Views.{head_terminal}
 use Rattle.ruby_parse_cursor.specs.declared.fault.Fault.{Fault}
 use Rattle.ruby_parse_cursor.specs.declared.fault.Fault.TheVariants as f
 use Rattle.ruby_parse_steps.specs.Gives.{GivesRule}
@@ -71,7 +71,7 @@ perhaps_none here ws p = g_chosen {s = some_expressions} (perhaps_arguments here
     (perhaps_chosen here ws false p) (g_give {s = some_expressions} [] ws)
 
 -- ---- a name and what follows it
-pub name_reads : (here : Scope) (w : Word) (ws mid rest : List Word) (r : Result Expr Fault) → head_sign ws ≡ 0 →
+pub name_reads : (here : Scope) (w : Word) (ws mid rest : List Word) (r : Result Expr Fault) → head_terminal ws ≡ 0 →
     ws ≡ w ∷ mid → is_name w ≡ true → GivesRule (name_rest here w.text) mid r rest → GivesRule (primary here) ws r rest
 name_reads here w ws mid rest r s e n g = g_chosen {s = an_expression} (primary here)
     (token is_name λ v. only (name_rest here v.text)) ws rest r (chosen_at here ws 0 _ s refl refl)

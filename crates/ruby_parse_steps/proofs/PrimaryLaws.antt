@@ -13,7 +13,7 @@ use Rattle.ruby_grammar.specs.Rules.{ruby, Scope, an_expression, primary, name_r
 use Rattle.ruby_grammar.specs.Values.{number_of, behind_sign}
 use Rattle.ruby_grammar.specs.Expressions.{text_from, constant_alone, array_from, hash_from, group_from}
 use Rattle.ruby_grammar.specs.Choices.{ruby_choices, next_is, deepen}
-use Rattle.ruby_parse_cursor.specs.Views.{head_sign}
+use Rattle.ruby_parse_cursor.specs.Views.{head_terminal}
 use Rattle.ruby_parse_cursor.specs.declared.fault.Fault.TheVariants as f
 use Rattle.ruby_parse_steps.specs.Gives.{Gives, GivesRule}
 use Rattle.ruby_parse_steps.specs.Primaries.{nests}
@@ -44,13 +44,13 @@ primary_at here n =
 wrong : {A : Type 0} → (98 == 98) ≡ false → A
 wrong e = cc
 
-pub chosen_at : (here : Scope) (ws : List Word) (n : ℕ) (c : Choice ruby an_expression) → head_sign ws ≡ n →
+pub chosen_at : (here : Scope) (ws : List Word) (n : ℕ) (c : Choice ruby an_expression) → head_terminal ws ≡ n →
     (98 == n) ≡ false → primary_at here n ≡ c → choose ruby_choices (primary here) ws ≡ c
 chosen_at here [] n c e o h = wrong (subst (λ m. (98 == m) ≡ false) (sym e) o)
 chosen_at here (w ∷ ws) n c e o h = subst (λ m. primary_at here m ≡ c) (sym e) h
 
 -- the first word has this sign
-pub sees : (ws : List Word) (n : ℕ) → head_sign ws ≡ n → (98 == n) ≡ false → next_is (is n) (head ws) ≡ true
+pub sees : (ws : List Word) (n : ℕ) → head_terminal ws ≡ n → (98 == n) ≡ false → next_is (is n) (head ws) ≡ true
 sees [] n e o = wrong (subst (λ m. (98 == m) ≡ false) (sym e) o)
 sees (w ∷ ws) n e o = subst (λ m. (m == n) ≡ true) (sym e) (self n)
   where
@@ -58,7 +58,7 @@ sees (w ∷ ws) n e o = subst (λ m. (m == n) ≡ true) (sym e) (self n)
     self n = grind (arith, nat_tests)
 
 -- a word that is an expression by itself
-pub word_reads : (here : Scope) (n : ℕ) (x : Expr) (ws rest : List Word) → head_sign ws ≡ n → (98 == n) ≡ false →
+pub word_reads : (here : Scope) (n : ℕ) (x : Expr) (ws rest : List Word) → head_terminal ws ≡ n → (98 == n) ≡ false →
     primary_at here n ≡ take (token (is n) λ _. give x) → rest ≡ drop 1 ws → GivesRule (primary here) ws (Ok x) rest
 word_reads here n x ws rest e o h d =
     g_chosen {s = an_expression} (primary here) (token (is n) λ _. give x) ws rest (Ok x)
@@ -68,7 +68,7 @@ word_reads here n x ws rest e o h d =
 
 -- a word whose text tells the value
 pub text_reads : (here : Scope) (n : ℕ) (value : List ℕ → Expr) (w : Word) (x : Expr) (ws rest : List Word) →
-    head_sign ws ≡ n → (98 == n) ≡ false → primary_at here n ≡ take (token (is n) λ v. give (value v.text)) →
+    head_terminal ws ≡ n → (98 == n) ≡ false → primary_at here n ≡ take (token (is n) λ v. give (value v.text)) →
     ws ≡ w ∷ rest → is n w ≡ true → x ≡ value w.text → GivesRule (primary here) ws (Ok x) rest
 text_reads here n value w x ws rest e o h q p v =
     g_chosen {s = an_expression} (primary here) (token (is n) λ v. give (value v.text)) ws rest (Ok x)
@@ -112,7 +112,7 @@ primary_none here n h int sym' ivar nil yes' no' self =
     ∙ cond-false (n == 95) _ _ k.1
     ∙ cond-false (n == 91) _ _ l.0
 
-pub no_primary : (here : Scope) (n : ℕ) (ws : List Word) → head_sign ws ≡ n → primary_at here n ≡ nothing →
+pub no_primary : (here : Scope) (n : ℕ) (ws : List Word) → head_terminal ws ≡ n → primary_at here n ≡ nothing →
     GivesRule (primary here) ws (Err f.Unexpected) ws
 no_primary here n [] e h = g_nothing {s = an_expression} (primary here) [] refl
 no_primary here n (w ∷ ws) e h = g_nothing {s = an_expression} (primary here) (w ∷ ws)

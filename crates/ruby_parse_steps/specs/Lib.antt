@@ -3,3 +3,4 @@ pub mod Levels
 pub mod Scopes
 pub mod Opens
 pub mod Primaries
+pub mod Postfixes

@@ -4,10 +4,10 @@ ghost use Rattle.std.specs.Prelude.{◌≡◌, ◌≤◌, ◌∷◌, ◌++◌, [
 ghost use Rattle.ruby_parse_steps.specs.Scopes.{scope_view};
 ghost use Rattle.ruby_parse_steps.specs.Opens.{GivesEnded};
 
-use crate::operators::choice;
+use crate::operators::choice_of;
 use crate::scope::Scope;
-use ruby_parse_cursor::signs::COLON;
-use ruby_parse_cursor::{Fault, Reader};
+use ruby_parse_cursor::terminals::COLON;
+use ruby_parse_cursor::{Cursor, Fault};
 use ruby_types::Expr;
 use std::alloc::AllocError;
 
@@ -18,6 +18,7 @@ pub enum Open {
     Other(Expr, Expr),
 }
 
+/// Begins one more choice.
 pub fn push_open(opens: &mut Vec<Open>, begun: Open) -> Result<(), AllocError>
     ensures { OnOk result (opens.new.items ≡ opens.old.items ++ begun ∷ []) }
 {
@@ -26,23 +27,23 @@ pub fn push_open(opens: &mut Vec<Open>, begun: Open) -> Result<(), AllocError>
 }
 
 /// Ends each choice that ends with this value. None where one goes on behind its `:`.
-pub fn ended(
+pub fn end_choices(
     scope: Scope<'_, '_>,
     opens: &mut Vec<Open>,
     value: Expr,
-    reader: &mut Reader<'_>,
+    cursor: &mut Cursor<'_>,
 ) -> Result<Option<Expr>, Fault>
-    ensures reads { GivesEnded (scope_view scope.entry) opens.old.items value reader.old result opens.new.items
-        reader.new }
-    ensures shorter { length reader.new ≤ length reader.old }
+    ensures reads { GivesEnded (scope_view scope.entry) opens.old.items value cursor.old result opens.new.items
+        cursor.new }
+    ensures shorter { length cursor.new ≤ length cursor.old }
 {
     let mut value = value;
     'opens: loop {
         match opens.pop() {
             None => return Ok(Some(value)),
-            Some(Open::Other(test, first)) => value = choice(scope.alloc, test, first, value)?,
+            Some(Open::Other(test, first)) => value = choice_of(scope.alloc, test, first, value)?,
             Some(Open::Test(test)) => {
-                reader.take(COLON)?;
+                cursor.take(COLON)?;
                 push_open(opens, Open::Other(test, value))?;
                 return Ok(None);
             }

@@ -1,13 +1,13 @@
 //! Operators with two operands, and the trees that they make.
 
-ghost use Rattle.std.specs.Prelude.{◌≡◌, ◌∷◌, [], IfOk, codes};
-ghost use Rattle.ruby_grammar.specs.Signs as signs;
+ghost use Rattle.std.specs.Prelude.{◌≡◌, ◌∷◌, [], IfOk, codes, nat_lt};
+ghost use Rattle.ruby_grammar.specs.Signs as terminals;
 ghost use Rattle.ruby_grammar.specs.Values.{operation};
 ghost use Rattle.ruby_parse_cursor.specs.Views.{word_view};
-ghost use Rattle.ruby_parse_steps.specs.Levels.{level_view, operator_sign};
+ghost use Rattle.ruby_parse_steps.specs.Levels.{level_view, rank, looser, is_operator_terminal, is_any_operator};
 
 use ruby_parse_cursor::Word;
-use ruby_parse_cursor::signs::{
+use ruby_parse_cursor::terminals::{
     AND_ALSO, AT_LEAST, AT_MOST, DIFFERS, DIVIDE, LESS, MINUS, MODULO, MORE, OR_ELSE, PLUS, SAME,
     TIMES,
 };
@@ -18,7 +18,7 @@ use std::alloc::{AllocError, Global};
 /// The levels of operators with two operands, from the tightest on: `*` `/` `%`, `+` `-`, comparisons, `==` `!=`,
 /// `&&`, `||`.
 /// `Units` has none.
-#[derive(Clone, Copy, PartialEq, Eq)]
+#[derive(Clone, Copy)]
 pub enum Level {
     Units,
     Products,
@@ -30,9 +30,45 @@ pub enum Level {
 }
 
 impl Level {
-    /// The level of the operands.
-    pub fn tighter(self) -> Level
-        ensures { level_view result ≡ signs.tighter (level_view self) }
+    /// How loosely operators of the level bind, from 0 on.
+    fn rank(self) -> u8
+        ensures { result ≡ rank (level_view self) }
+    {
+        match self {
+            Level::Units => 0,
+            Level::Products => 1,
+            Level::Sums => 2,
+            Level::Comparisons => 3,
+            Level::Equalities => 4,
+            Level::Conjunctions => 5,
+            Level::Disjunctions => 6,
+        }
+    }
+
+    /// Whether operators of the level bind looser than those of the other one.
+    pub fn is_looser_than(self, other: Level) -> bool
+        ensures { result ≡ nat_lt (rank (level_view other)) (rank (level_view self)) }
+    {
+        other.rank() < self.rank()
+    }
+
+    /// The next looser level. The loosest one stays.
+    pub fn looser(self) -> Level
+        ensures { level_view result ≡ looser (level_view self) }
+    {
+        match self {
+            Level::Units => Level::Products,
+            Level::Products => Level::Sums,
+            Level::Sums => Level::Comparisons,
+            Level::Comparisons => Level::Equalities,
+            Level::Equalities => Level::Conjunctions,
+            Level::Conjunctions | Level::Disjunctions => Level::Disjunctions,
+        }
+    }
+
+    /// The level of the operands: the next tighter one.
+    pub fn operand_level(self) -> Level
+        ensures { level_view result ≡ terminals.tighter (level_view self) }
     {
         match self {
             Level::Disjunctions => Level::Conjunctions,
@@ -44,36 +80,42 @@ impl Level {
         }
     }
 
-    /// Whether this is the sign of an operator of this level.
-    pub fn has(self, sign: u16) -> bool
-        ensures { result ≡ operator_sign (level_view self) sign }
+    /// Whether this is the terminal of an operator of this level.
+    pub fn has(self, terminal: u16) -> bool
+        ensures { result ≡ is_operator_terminal (level_view self) terminal }
     {
         match self {
-            Level::Disjunctions => sign == OR_ELSE,
-            Level::Conjunctions => sign == AND_ALSO,
-            Level::Equalities => sign == SAME || sign == DIFFERS,
+            Level::Disjunctions => terminal == OR_ELSE,
+            Level::Conjunctions => terminal == AND_ALSO,
+            Level::Equalities => terminal == SAME || terminal == DIFFERS,
             Level::Comparisons => {
-                sign == LESS || sign == AT_MOST || sign == MORE || sign == AT_LEAST
+                terminal == LESS || terminal == AT_MOST || terminal == MORE || terminal == AT_LEAST
             }
-            Level::Sums => sign == PLUS || sign == MINUS,
-            Level::Products => sign == TIMES || sign == DIVIDE || sign == MODULO,
+            Level::Sums => terminal == PLUS || terminal == MINUS,
+            Level::Products => terminal == TIMES || terminal == DIVIDE || terminal == MODULO,
             Level::Units => false,
         }
     }
 
     /// Whether more than one operator of the level may stand in a row.
     pub fn repeats(self) -> bool
-        ensures { result ≡ signs.repeats (level_view self) }
+        ensures { result ≡ terminals.repeats (level_view self) }
     {
         !matches!(self, Level::Equalities)
     }
 }
 
-/// A call of this method.
-pub fn call(alloc: Global, on: Expr, name: &[u8], args: Exprs) -> Result<Expr, AllocError>
-    ensures { IfOk result (λ x. x ≡ Expr.Call (Some on) name.now args) }
+/// Whether this may be the terminal of an operator with two operands. It is that of each, and of `!`.
+pub fn is_operator(terminal: u16) -> bool
+    ensures { result ≡ is_any_operator terminal }
 {
-    let name = Text::from_bytes(alloc, name)?;
+    (OR_ELSE..=MODULO).contains(&terminal)
+}
+
+/// A call of this method.
+pub fn method_call(alloc: Global, on: Expr, name: Text, args: Exprs) -> Result<Expr, AllocError>
+    ensures { IfOk result (λ x. x ≡ Expr.Call (Some on) name args) }
+{
     Ok(Expr::Call {
         on: Some(Boxed::new(alloc, on)?),
         name,
@@ -82,14 +124,16 @@ pub fn call(alloc: Global, on: Expr, name: &[u8], args: Exprs) -> Result<Expr, A
 }
 
 /// A call with one argument.
-pub fn call_with(alloc: Global, on: Expr, name: &[u8], arg: Expr) -> Result<Expr, AllocError>
+pub fn method_call_with(alloc: Global, on: Expr, name: &[u8], arg: Expr) -> Result<Expr, AllocError>
     ensures { IfOk result (λ x. x ≡ Expr.Call (Some on) name.now (arg ∷ [])) }
 {
     let mut args = Exprs::new(alloc);
     args.push(arg)?;
-    call(alloc, on, name, args)
+    let name = Text::from_bytes(alloc, name)?;
+    method_call(alloc, on, name, args)
 }
 
+/// `!x`
 pub fn negated(alloc: Global, x: Expr) -> Result<Expr, AllocError>
     ensures { IfOk result (λ y. y ≡ Expr.Not x) }
 {
@@ -97,37 +141,38 @@ pub fn negated(alloc: Global, x: Expr) -> Result<Expr, AllocError>
 }
 
 /// `-x`: the call `-@`.
-pub fn minus(alloc: Global, x: Expr) -> Result<Expr, AllocError>
+pub fn minus_call(alloc: Global, x: Expr) -> Result<Expr, AllocError>
     ensures { IfOk result (λ y. y ≡ Expr.Call (Some x) (codes "-@") []) }
 {
-    call(alloc, x, b"-@", Exprs::new(alloc))
+    let name = Text::from_bytes(alloc, b"-@")?;
+    method_call(alloc, x, name, Exprs::new(alloc))
 }
 
 /// The tree of an operator and its operands. `a != b` is not `a == b`.
 pub fn operation(
     alloc: Global,
-    sign: u16,
+    terminal: u16,
     operator: Word<'_>,
     a: Expr,
     b: Expr,
 ) -> Result<Expr, AllocError>
-    requires { sign ≡ signs.sign (word_view operator) }
+    requires { terminal ≡ terminals.sign (word_view operator) }
     ensures { IfOk result (λ x. x ≡ operation (word_view operator.entry) a b) }
 {
-    if sign == OR_ELSE {
+    if terminal == OR_ELSE {
         Ok(Expr::Or(Boxed::new(alloc, a)?, Boxed::new(alloc, b)?))
-    } else if sign == AND_ALSO {
+    } else if terminal == AND_ALSO {
         Ok(Expr::And(Boxed::new(alloc, a)?, Boxed::new(alloc, b)?))
-    } else if sign == DIFFERS {
-        let same = call_with(alloc, a, b"==", b)?;
+    } else if terminal == DIFFERS {
+        let same = method_call_with(alloc, a, b"==", b)?;
         negated(alloc, same)
     } else {
-        call_with(alloc, a, operator.text, b)
+        method_call_with(alloc, a, operator.text, b)
     }
 }
 
 /// `test ? value : other`
-pub fn choice(alloc: Global, test: Expr, value: Expr, other: Expr) -> Result<Expr, AllocError>
+pub fn choice_of(alloc: Global, test: Expr, value: Expr, other: Expr) -> Result<Expr, AllocError>
     ensures { IfOk result (λ x. x ≡ Expr.Choose test value other) }
 {
     Ok(Expr::Choose(

@@ -1,1 +1,2 @@
 mod Rises
+mod Shaped

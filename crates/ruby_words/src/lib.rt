@@ -2,8 +2,10 @@
 //! out.
 #![tactic(auto)]
 
-ghost use Rattle.std.specs.Prelude.{◌≡◌, ◌≤◌, ◌↔◌, IsTrue};
+ghost use Rattle.std.specs.Prelude.{◌≡◌, ◌≤◌, ◌↔◌, IsTrue, IfSome, IfNone};
+ghost use Rattle.case_table.specs.Rows.{HasCode, HasNone};
 ghost use Rattle.ruby_words.specs.Words.{word_rows};
+ghost use Rattle.ruby_words.specs.Shapes.{is_shape};
 
 use case_table::{Case, CaseTable};
 
@@ -243,6 +245,50 @@ pub fn ruby_words() -> CaseTable<47>
     match CaseTable::new(ROWS) {
         Ok(table) => table,
         Err(_) => unreachable!(),
+    }
+}
+
+/// Whether a word begins with this byte and has this many, as few other names do.
+fn is_shape(first: u8, size: usize) -> bool
+    ensures { result ≡ is_shape first size }
+{
+    match first {
+        b'a' => size == 3 || size == 5 || size == 11 || size == 13,
+        b'b' => size == 5,
+        b'c' => size == 4 || size == 5,
+        b'd' => size == 2 || size == 3,
+        b'e' => size == 3 || size == 4 || size == 5 || size == 6,
+        b'f' => size == 3 || size == 5,
+        b'i' => size == 2 || size == 7,
+        b'm' => size == 6,
+        b'n' => size == 3 || size == 4,
+        b'o' => size == 2,
+        b'p' => size == 6 || size == 7 || size == 9,
+        b'r' => size == 4 || size == 5 || size == 6 || size == 7 || size == 16,
+        b's' => size == 4 || size == 5,
+        b't' => size == 4,
+        b'u' => size == 5 || size == 6,
+        b'w' => size == 4 || size == 5,
+        b'y' => size == 5,
+        _ => false,
+    }
+}
+
+/// The code of a name in the table of these words. A name of another shape than theirs isn't looked up.
+pub fn code_of(words: &CaseTable<47>, name: &[u8]) -> Option<u16>
+    requires { words.now ≡ word_rows }
+    // A word is spelled so, and has that code.
+    ensures found { IfSome result (λ c. HasCode words.now name.now c) }
+    // No word is spelled so.
+    ensures none { IfNone result (HasNone words.now name.now) }
+{
+    match name {
+        [] => None,
+        [first, ..] => if is_shape(*first, name.len()) {
+            words.find(name)
+        } else {
+            None
+        },
     }
 }
 

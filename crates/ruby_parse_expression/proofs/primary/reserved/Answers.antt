@@ -11,48 +11,48 @@ use Rattle.ruby_parse_expression.proofs.primary.reserved.Goals.{in_default-via-i
 
 pub returns-in-Some-eq12-cases-clause-reads : goal.returns-in-Some-eq12-cases-clause-reads
 returns-in-Some-eq12-cases-clause-reads c = λ here.
-    subst (λ r. GivesRule (primary here) c.args.reader.now r c.passed.new.reader) (sym c.passed.ensures.value)
-    (word_reads here 12 expr.Nil c.args.reader.now c.passed.new.reader (code_is _ 12 (sym c.code.ensures ∙ (cc)))
+    subst (λ r. GivesRule (primary here) c.args.cursor.now r c.passed.new.cursor) (sym c.passed.ensures.value)
+    (word_reads here 12 expr.Nil c.args.cursor.now c.passed.new.cursor (code_is _ 12 (sym c.peek_code.ensures ∙ (cc)))
     refl refl c.passed.ensures.passed)
 
 pub returns-in-Some-eq13-cases-clause-reads : goal.returns-in-Some-eq13-cases-clause-reads
 returns-in-Some-eq13-cases-clause-reads c = λ here.
-    subst (λ r. GivesRule (primary here) c.args.reader.now r c.passed-2.new.reader) (sym c.passed-2.ensures.value)
-    (word_reads here 13 expr.True c.args.reader.now c.passed-2.new.reader (code_is _ 13 (sym c.code.ensures ∙ (cc)))
+    subst (λ r. GivesRule (primary here) c.args.cursor.now r c.passed-2.new.cursor) (sym c.passed-2.ensures.value)
+    (word_reads here 13 expr.True c.args.cursor.now c.passed-2.new.cursor (code_is _ 13 (sym c.peek_code.ensures ∙ (cc)))
     refl refl c.passed-2.ensures.passed)
 
 pub returns-in-Some-eq14-cases-clause-reads : goal.returns-in-Some-eq14-cases-clause-reads
 returns-in-Some-eq14-cases-clause-reads c = λ here.
-    subst (λ r. GivesRule (primary here) c.args.reader.now r c.passed-3.new.reader) (sym c.passed-3.ensures.value)
-    (word_reads here 14 expr.False c.args.reader.now c.passed-3.new.reader (code_is _ 14 (sym c.code.ensures ∙ (cc)))
+    subst (λ r. GivesRule (primary here) c.args.cursor.now r c.passed-3.new.cursor) (sym c.passed-3.ensures.value)
+    (word_reads here 14 expr.False c.args.cursor.now c.passed-3.new.cursor (code_is _ 14 (sym c.peek_code.ensures ∙ (cc)))
     refl refl c.passed-3.ensures.passed)
 
 pub returns-in-Some-eq11-cases-clause-reads : goal.returns-in-Some-eq11-cases-clause-reads
 returns-in-Some-eq11-cases-clause-reads c = λ here.
-    subst (λ r. GivesRule (primary here) c.args.reader.now r c.passed-4.new.reader) (sym c.passed-4.ensures.value)
-    (word_reads here 11 expr.SelfRef c.args.reader.now c.passed-4.new.reader
-    (code_is _ 11 (sym c.code.ensures ∙ (cc))) refl refl c.passed-4.ensures.passed)
+    subst (λ r. GivesRule (primary here) c.args.cursor.now r c.passed-4.new.cursor) (sym c.passed-4.ensures.value)
+    (word_reads here 11 expr.SelfRef c.args.cursor.now c.passed-4.new.cursor
+    (code_is _ 11 (sym c.peek_code.ensures ∙ (cc))) refl refl c.passed-4.ensures.passed)
 
 -- the code is none of the four
 pub returns-in_default-clause-reads : goal.returns-in_default-clause-reads
-returns-in_default-clause-reads c = λ here. no_primary here _ c.args.reader.now refl
+returns-in_default-clause-reads c = λ here. no_primary here _ c.args.cursor.now refl
     (primary_none here _ c.requires.nests c.requires.no_number c.requires.no_symbol c.requires.no_variable
-    (λ e. let r : c.code.result ≡ Some 12 = c.code.ensures ∙ ap code_view e in
+    (λ e. let r : c.peek_code.result ≡ Some 12 = c.peek_code.ensures ∙ ap code_view e in
     elim c.in_default.branch [
       | in_default-via-in-Some+in_default-1 w ↦ search rules
       | in_default-via-in-None-1 w ↦ search rules
     ])
-    (λ e. let r : c.code.result ≡ Some 13 = c.code.ensures ∙ ap code_view e in
+    (λ e. let r : c.peek_code.result ≡ Some 13 = c.peek_code.ensures ∙ ap code_view e in
     elim c.in_default.branch [
       | in_default-via-in-Some+in_default-1 w ↦ search rules
       | in_default-via-in-None-1 w ↦ search rules
     ])
-    (λ e. let r : c.code.result ≡ Some 14 = c.code.ensures ∙ ap code_view e in
+    (λ e. let r : c.peek_code.result ≡ Some 14 = c.peek_code.ensures ∙ ap code_view e in
     elim c.in_default.branch [
       | in_default-via-in-Some+in_default-1 w ↦ search rules
       | in_default-via-in-None-1 w ↦ search rules
     ])
-    (λ e. let r : c.code.result ≡ Some 11 = c.code.ensures ∙ ap code_view e in
+    (λ e. let r : c.peek_code.result ≡ Some 11 = c.peek_code.ensures ∙ ap code_view e in
     elim c.in_default.branch [
       | in_default-via-in-Some+in_default-1 w ↦ search rules
       | in_default-via-in-None-1 w ↦ search rules

@@ -29,21 +29,21 @@ decreases-branches l = 6 * l.body.levels + 5
 abbrev pub invariant-statements-lines : goal.invariant-statements-lines
 invariant-statements-lines l = record {
   goes_on : (r : Result Block Fault) (end : List Word) →
-      GivesRule (rules.statements (around_view l.body l.locals) l.statements) l.reader r end →
-      GivesRule (rules.statements (around_view l.body l.fn.locals) []) l.fn.reader r end;
-  shorter : length l.reader ≤ length l.fn.reader;
+      GivesRule (rules.statements (around_view l.body l.locals) l.statements) l.cursor r end →
+      GivesRule (rules.statements (around_view l.body l.fn.locals) []) l.fn.cursor r end;
+  shorter : length l.cursor ≤ length l.fn.cursor;
 }
 
 abbrev pub decreases-statements-lines : goal.decreases-statements-lines
-decreases-statements-lines l = length l.reader
+decreases-statements-lines l = length l.cursor
 
 abbrev pub invariant-arms-further : goal.invariant-arms-further
 invariant-arms-further l = record {
   goes_on : (r : Result Known Fault) (end : List Word) →
-      GivesRest (around_view l.body l.locals) l.is_unless l.list l.closed l.reader r end →
-      Gives (arm_then (around_view l.body l.fn.locals) l.is_unless l.fn.list) l.fn.reader r end;
-  shorter : length l.reader ≤ length l.fn.reader;
+      GivesRest (around_view l.body l.locals) l.is_unless l.list l.closed l.cursor r end →
+      Gives (arm_then (around_view l.body l.fn.locals) l.is_unless l.fn.list) l.fn.cursor r end;
+  shorter : length l.cursor ≤ length l.fn.cursor;
 }
 
 abbrev pub decreases-arms-further : goal.decreases-arms-further
-decreases-arms-further l = length l.reader
+decreases-arms-further l = length l.cursor

@@ -13,12 +13,12 @@ returns-in_err-first-clause-reads c =
 pub returns-in_err-path-2-clause-reads : goal.returns-in_err-path-2-clause-reads
 returns-in_err-path-2-clause-reads c =
     let p = err_from_is_err_and c.from_residual-in_err-path-2.result c.from_residual-in_err-path-2.ensures.1 in
-    rw (p.1, p.2) (constant_breaks _ (word_view c.in_ok-first.first) c.in_ok-path.path _ c.taken.new.self _ _
-    c.in_ok-first.ensures.ok c.in_ok-first.ensures.sign (c.in_ok-path.ensures
+    rw (p.1, p.2) (constant_breaks _ (word_view c.in_ok-first.first) c.in_ok-path.path _ c.take_word.new.self _ _
+    c.in_ok-first.ensures.ok c.in_ok-first.ensures.terminal (c.in_ok-path.ensures
     ∙ ap (λ l. l ++ c.in_ok-first.first.text.now ∷ []) c.new.ensures) c.in_err-path-2.ensures.reads)
 
 pub returns-clause-reads : goal.returns-clause-reads
 returns-clause-reads c =
-    constant_reads _ (word_view c.in_ok-first.first) c.in_ok-path.path c.in_ok-path-2.path _ c.taken.new.self _
-    c.in_ok-first.ensures.ok c.in_ok-first.ensures.sign (c.in_ok-path.ensures
+    constant_reads _ (word_view c.in_ok-first.first) c.in_ok-path.path c.in_ok-path-2.path _ c.take_word.new.self _
+    c.in_ok-first.ensures.ok c.in_ok-first.ensures.terminal (c.in_ok-path.ensures
     ∙ ap (λ l. l ++ c.in_ok-first.first.text.now ∷ []) c.new.ensures) c.in_ok-path-2.ensures.reads

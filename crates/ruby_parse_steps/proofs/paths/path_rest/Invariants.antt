@@ -10,10 +10,10 @@ use Rattle.ruby_parse_steps.proofs.paths.path_rest.Given as goal
 abbrev pub invariant-segments : goal.invariant-segments
 invariant-segments l = record {
   goes_on : (ending : Option Mark) (ms : List Mark) (o : Outcome ruby some_names) →
-      Comes (only (rules.path_rest true ending l.path)) ms l.reader o →
-      Comes (only (rules.path_rest true ending l.fn.first)) ms l.fn.reader o;
-  shorter : length l.reader ≤ length l.fn.reader;
+      Comes (only (rules.path_rest true ending l.path)) ms l.cursor o →
+      Comes (only (rules.path_rest true ending l.fn.first)) ms l.fn.cursor o;
+  shorter : length l.cursor ≤ length l.fn.cursor;
 }
 
 abbrev pub decreases-segments : goal.decreases-segments
-decreases-segments l = length l.reader
+decreases-segments l = length l.cursor
