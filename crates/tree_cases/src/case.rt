@@ -65,15 +65,20 @@ impl Case {
 
     /// What `tree` says in place of what it must say.
     pub fn failure(self, alloc: Global) -> Result<Option<Vec<u8>>, AllocError> {
-        let mut tree = self.tree;
-        if let Some(text) = self.configuration {
+        let Case {
+            mut tree,
+            configuration,
+            wanted,
+            ..
+        } = self;
+        if let Some(text) = configuration {
             tree.write(CONFIGURATION_PATH, text.as_slice())?;
         }
         let said = match tree.read_all() {
             TreeAns::Read(snapshot) => said_of(alloc, &snapshot)?,
             TreeAns::Failed | TreeAns::Memory => return Err(AllocError),
         };
-        if said.as_slice() == self.wanted.as_slice() {
+        if said.as_slice() == wanted.as_slice() {
             Ok(None)
         } else {
             Ok(Some(said))

@@ -28,7 +28,6 @@ mod trees;
 
 use crate::case::Case;
 use std::alloc::Global;
-use std::rt::{Input, Print};
 use std::{io, str};
 
 /// How many cases held, and how many didn't.
