@@ -198,10 +198,6 @@ SomeNames-group starred group path answer by_count is_group h =
 not_true : (b : Bool) → b ≡ false → not b ≡ true
 not_true b e = ap not e
 
-from_not : (b : Bool) → not b ≡ true → b ≡ false
-from_not true e = absurd (false≢true e)
-from_not false e = refl
-
 -- a path that is among the patterns without a star is named
 pub IsNamed-plain : (patterns : List (List ℕ)) (plain : List (Bor (List ℕ))) (starred : List Starred) (path : List ℕ) →
     IsArranged patterns plain starred → Contains (texts plain) path → IsNamed patterns path

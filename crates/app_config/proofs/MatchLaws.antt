@@ -180,6 +180,7 @@ behind-strip piece segment (Some x) h =
     let e : segment ≡ piece ++ x.now = strip_prefix_is Decides-eqb segment piece (Some x) h in
     sym (ap (behind piece) e ∙ behind-append piece x.now)
 
+-- a piece found at the front is found at its first place
 pub behind_first-found : (piece segment : List ℕ) (found : Option (Bor (List ℕ))) →
     option_copied found ≡ behind piece segment → is_some found ≡ true → option_copied found ≡ behind_first piece segment
 behind_first-found piece [] found e t = e
@@ -193,6 +194,7 @@ fits_pieces-cons : (piece : List ℕ) (pieces : List (List ℕ)) (segment : List
 fits_pieces-cons piece [] segment some = absurd (some refl)
 fits_pieces-cons piece (next ∷ more) segment some = refl
 
+-- a segment fits a pattern with a star where it begins with the pattern's first piece and some end of its rest fits
 pub segment_fits-step : (pattern piece next segment : List ℕ) (found : Option (List ℕ)) →
     split 42 pattern ≡ piece ∷ split 42 next → found ≡ behind piece segment → passes (some_end_fits next) found
     ≡ segment_fits pattern segment
@@ -207,6 +209,7 @@ some_end-cons : (piece : List ℕ) (pieces : List (List ℕ)) (segment : List �
 some_end-cons piece [] segment some = absurd (some refl)
 some_end-cons piece (next ∷ more) segment some = some_end-piece (fits_pieces (next ∷ more)) piece segment
 
+-- a step of the matcher behind a star: the first place of the next piece serves
 pub some_end_fits-step : (pattern piece next segment : List ℕ) (found : Option (List ℕ)) →
     split 42 pattern ≡ piece ∷ split 42 next → found ≡ behind_first piece segment → passes (some_end_fits next) found
     ≡ some_end_fits pattern segment
@@ -215,6 +218,7 @@ some_end_fits-step pattern piece next segment found parts e =
     ∙ (sym (some_end-cons piece (split 42 next) segment (split-some 42 next))
     ∙ ap (λ pieces. some_end (fits_pieces pieces) segment) (sym parts))
 
+-- the last step of the matcher: the last piece stands at the end
 pub some_end_fits-last : (pattern piece segment : List ℕ) (answer : Bool) → split 42 pattern ≡ piece ∷ [] →
     answer ≡ ends_with eqb segment piece → answer ≡ some_end_fits pattern segment
 some_end_fits-last pattern piece segment answer parts e = some_end-last piece segment answer e
@@ -250,6 +254,7 @@ last_segment pattern path wanted segment None answer p s e n = is_none-same None
 last_segment pattern path wanted segment (Some rest) answer p s e n = is_none-same (Some rest) answer n
     ∙ path_is_longer pattern path wanted segment rest.now p s
 
+-- a pattern of more segments than the path names it not
 pub pattern_is_longer : (pattern path wanted segment below : List ℕ) → split 47 pattern ≡ wanted ∷ split 47 below →
     split 47 path ≡ segment ∷ [] → false ≡ all_fit (split 47 pattern) (split 47 path)
 pattern_is_longer pattern path wanted segment below p s =
@@ -313,6 +318,7 @@ test-from_Fits (star any {pattern = pattern} {segment = segment} f) =
     fits_pieces-cons [] (split 42 pattern) (any ++ segment) (split-some 42 pattern)
     ∙ some_end-append (fits_pieces (split 42 pattern)) any segment (test-from_Fits f)
 
+-- what the matcher accepts fits, segment by segment
 pub AllZip-from_test : (patterns segments : List (List ℕ)) → all_fit patterns segments ≡ true →
     AllZip Fits patterns segments
 AllZip-from_test [] [] e = tt
@@ -322,6 +328,7 @@ AllZip-from_test (pattern ∷ patterns) (segment ∷ segments) e =
     let both = and_cases (segment_fits pattern segment) (all_fit patterns segments) e in
     (Fits-from_test pattern segment both.0, AllZip-from_test patterns segments both.1)
 
+-- what fits, segment by segment, the matcher accepts
 pub test-from_AllZip : (patterns segments : List (List ℕ)) → AllZip Fits patterns segments →
     all_fit patterns segments ≡ true
 test-from_AllZip [] [] h = refl

@@ -8,7 +8,6 @@ use Rattle.std.specs.List.{filter, Any, All, AllWithin}
 use Rattle.std.proofs.lemmas.List.{append-nil, drop_all, get_or-map, get_or-take, get_or-drop, length-map, length-take}
 use Rattle.std.proofs.lemmas.List.{length-drop}
 use Rattle.std.proofs.lemmas.List.Sorted.{IsPermutation-map}
-use Rattle.std.proofs.lemmas.List.Elements.{All-contains, filter_passes}
 
 -- the answer to a question is the answer to one that has the same answer
 pub MatchBool-same : (answer : Bool) {P Q : Type 0} → (P → Q) → (Q → P) → MatchBool answer P (¬ P) →
@@ -49,10 +48,6 @@ filter-contains test (y ∷ xs) x h =
       | true ↦ λ k. Contains-below y xs (filter test xs) x (filter-contains test xs x) k
       | false ↦ λ k. Contains-tail y xs x (filter-contains test xs x k)
     ] h
-
--- and it passes the test
-pub filter-passes : {X : Type 0} (test : X → Bool) (xs : List X) (x : X) → Contains (filter test xs) x → test x ≡ true
-filter-passes test xs x h = All-contains (λ y. test y ≡ true) (filter test xs) x (filter_passes test xs) h
 
 -- a member's image is among the images
 pub Contains-map : {X Y : Type 0} (f : X → Y) (xs : List X) (x : X) (y : Y) → Contains xs x → f x ≡ y →

@@ -55,6 +55,7 @@ split-none byte (first ∷ rest) h =
       | false ↦ λ past. ap (onto_first first) (split-none byte rest (omega arith))
     ] h
 
+-- spaces in front of a text change none of its words
 pub words-behind_spaces : (text : List ℕ) → words (behind_spaces text) ≡ words text
 words-behind_spaces [] = refl
 words-behind_spaces (first ∷ rest) =
@@ -86,6 +87,7 @@ words-word (first ∷ rest) word others h e =
           (sym (slice_split-cons_no (λ b. b == 32) first rest t) ∙ d)
     ] refl h e
 
+-- the first word of a text that a reader cut behind its spaces
 pub words-line : (text line word : List ℕ) (others : List (List ℕ)) → line ≡ behind_spaces text →
     (length line == 0) ≡ false → split 32 line ≡ word ∷ others → words text ≡ word ∷ filter is_filled others
 words-line text [] word others e h d = absurd (false≢true (sym h))
@@ -93,6 +95,7 @@ words-line text (first ∷ rest) word others e h d =
     words-word text word others (let more : 0 < length (first ∷ rest) = omega arith in rw (sym e) more)
     (ap (split 32) (sym e) ∙ d)
 
+-- bytes that are no UTF-8 fail the test
 pub not_utf8 : (bytes : List ℕ) → ¬ (IsUtf8 bytes) → false ≡ is_utf8 bytes
 not_utf8 bytes h = elim (is_utf8 bytes) as (λ v. is_utf8 bytes ≡ v →
     false ≡ v) [ true ↦ λ e. absurd (h (IsUtf8-from_is_utf8 bytes e)) | false ↦ λ e. refl ] refl

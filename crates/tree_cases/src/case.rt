@@ -6,7 +6,6 @@ use tree_command::{ListingFault, list_tree};
 
 #[derive(Drop)]
 pub struct Case {
-    title: String,
     tree: MemTree,
     configuration: Option<Vec<u8>>,
     wanted: Vec<u8>,
@@ -29,22 +28,26 @@ pub fn said_of(alloc: Global, snapshot: &Snapshot) -> Result<Vec<u8>, AllocError
 }
 
 impl Case {
-    pub fn new(alloc: Global, title: &str) -> Result<Case, AllocError> {
-        Ok(Case {
-            title: String::from_str(alloc, title)?,
+    fn new(alloc: Global) -> Case {
+        Case {
             tree: MemTree::new(alloc, CallNumbers::new(alloc)),
             configuration: None,
             wanted: Vec::new(alloc),
             alloc,
-        })
+        }
     }
 
-    pub fn title(&self) -> &str {
-        self.title.as_str()
+    /// The case of a paragraph.
+    pub fn read(alloc: Global, paragraph: &str) -> Result<Case, AllocError> {
+        let mut case = Case::new(alloc);
+        for line in paragraph.lines() {
+            case.add(line)?;
+        }
+        Ok(case)
     }
 
     /// Adds what a line of the case's paragraph says.
-    pub fn add(&mut self, line: &str) -> Result<(), AllocError> {
+    fn add(&mut self, line: &str) -> Result<(), AllocError> {
         match line.split_once(' ') {
             Some(("conf", text)) => self.add_configuration(text),
             Some(("file", path)) => self.tree.write(path, b""),
@@ -65,15 +68,20 @@ impl Case {
 
     /// What `tree` says in place of what it must say.
     pub fn failure(self, alloc: Global) -> Result<Option<Vec<u8>>, AllocError> {
-        let mut tree = self.tree;
-        if let Some(text) = self.configuration {
+        let Case {
+            mut tree,
+            configuration,
+            wanted,
+            ..
+        } = self;
+        if let Some(text) = configuration {
             tree.write(CONFIGURATION_PATH, text.as_slice())?;
         }
         let said = match tree.read_all() {
             TreeAns::Read(snapshot) => said_of(alloc, &snapshot)?,
             TreeAns::Failed | TreeAns::Memory => return Err(AllocError),
         };
-        if said.as_slice() == self.wanted.as_slice() {
+        if said.as_slice() == wanted.as_slice() {
             Ok(None)
         } else {
             Ok(Some(said))

@@ -28,60 +28,33 @@ mod trees;
 
 use crate::case::Case;
 use std::alloc::Global;
-use std::rt::{Input, Print};
 use std::{io, str};
 
-/// How many cases held, and how many didn't.
-#[derive(Clone, Copy)]
-struct Tally {
-    held: u64,
-    failed: u64,
-}
-
-/// Judges a case, and says so where it doesn't hold.
-fn judge<R: Print>(rt: &R, alloc: Global, case: Case, tally: Tally) -> io::Result<Tally> {
-    let title = String::from_str(alloc, case.title())?;
-    match case.failure(alloc)? {
-        None => Ok(Tally {
-            held: tally.held.saturating_add(1),
-            failed: tally.failed,
-        }),
+/// Judges the case of a paragraph, and says so where it doesn't hold.
+fn judge<R: Print>(rt: &R, alloc: Global, paragraph: &str) -> io::Result<bool> {
+    match Case::read(alloc, paragraph)?.failure(alloc)? {
+        None => Ok(true),
         Some(said) => {
-            println!(rt; "{title}: `tree` says")?;
-            println!(rt; "{}", str::from_utf8(said.as_slice()).unwrap_or("no text"))?;
-            Ok(Tally {
-                held: tally.held,
-                failed: tally.failed.saturating_add(1),
-            })
+            let said = str::from_utf8(said.as_slice()).unwrap_or("no text");
+            println!(rt; "of this case\n{paragraph}\n`tree` says\n{said}")?;
+            Ok(false)
         }
     }
 }
 
 fn run<R: Input + Print + AllocGlobal>(rt: &R) -> io::Result<()> {
     let alloc = rt.alloc();
-    let mut tally = Tally { held: 0, failed: 0 };
-    let mut open: Option<Case> = None;
-    for line in rt.lines(alloc) {
-        let line = line?;
-        open = match open {
-            None => if line.is_empty() {
-                None
-            } else {
-                Some(Case::new(alloc, line.as_str())?)
-            },
-            Some(mut case) => if line.is_empty() {
-                tally = judge(rt, alloc, case, tally)?;
-                None
-            } else {
-                case.add(line.as_str())?;
-                Some(case)
-            },
-        };
+    let text = io::read_to_string(alloc, rt.reader())?;
+    let mut held = 0u64;
+    let mut failed = 0u64;
+    for paragraph in text.as_str().split("\n\n") {
+        if judge(rt, alloc, paragraph)? {
+            held = held.saturating_add(1);
+        } else {
+            failed = failed.saturating_add(1);
+        }
     }
-    if let Some(case) = open {
-        tally = judge(rt, alloc, case, tally)?;
-    }
-    println!(rt; "{} held, {} failed", tally.held, tally.failed)
+    println!(rt; "{held} held, {failed} failed")
 }
 
 fn main(rt: HostRuntime) -> io::Result<()> {

@@ -1,12 +1,11 @@
 -- The roots of an application are one list, so it is never both listed and refused.
-use Rattle.std.proofs.Common.{◌≡◌, ◌↔◌, ◌⊎◌, ℕ, ◌<◌, ◌≤◌, List, [], ◌∷◌, ◌++◌, length, map, filter, Contains, All, refl}
+use Rattle.std.proofs.Common.{◌≡◌, ℕ, ◌<◌, ◌≤◌, List, [], ◌∷◌, ◌++◌, length, map, filter, Contains, All, refl}
 use Rattle.std.proofs.Common.{sym, ap, ◌∙◌, subst, inl, inr, arith}
 use Rattle.std.proofs.lemmas.List.Elements.{All-contains, Contains-append_right}
-use Rattle.outside.specs.Order.{IsBefore, Rising}
+use Rattle.outside.specs.Order.{IsBefore}
 use Rattle.outside.specs.Tree.{paths_of}
 use Rattle.outside.specs.declared.files.FileEntry.{FileEntry}
 use Rattle.outside.proofs.TableLaws.{before_is, not_before_itself}
-use Rattle.app_config.specs.Configuration.{configuration, faults}
 use Rattle.app_config.specs.declared.config.Config.{Config}
 use Rattle.app_config.specs.declared.config.ConfigFault.{ConfigFault}
 use Rattle.app_config.specs.declared.config.RootLine.{RootLine}
@@ -21,7 +20,6 @@ use Rattle.tree_scan.specs.Sites.{AreSites, IsFault}
 use Rattle.tree_scan.specs.declared.fault.ScanFault.TheVariants as scan
 use Rattle.tree_report.specs.Limits.{IsWithinLimits, IsExceeded}
 use Rattle.tree_report.specs.Configurations.{IsConfiguration}
-use Rattle.tree_report.specs.declared.limits.ExceededLimit.{ExceededLimit}
 use Rattle.tree_report.specs.declared.limits.Limit.{Limit as LimitKind}
 use Rattle.tree_report.specs.declared.limits.Limit.TheVariants.{Files, Bytes, Path}
 use Rattle.tree_report.specs.declared.refusal.Refusal.{Refusal}
@@ -117,6 +115,7 @@ no_two_roots : (files : List FileEntry) (config : Config) (scanned : Scanned) (p
     AreSites files config scanned → IsFault files config (scan.TwoRoots path) → ⊥
 no_two_roots files config scanned path sites h = no_fault config.roots path h sites.once
 
+-- no application is both listed and refused
 pub never_both : (files : List FileEntry) (bytes : List ℕ) (refusal : Refusal) → IsTreeListing files bytes →
     IsRefused files refusal → ⊥
 never_both files bytes (Limit exceeded) l h = not_exceeded files exceeded.limit exceeded.number l.within h

@@ -10,6 +10,7 @@ use Rattle.tree_report.specs.Configurations.{IsConfiguration}
 use Rattle.tree_command.specs.Faults.{of_scan}
 use Rattle.tree_command.specs.Tree.{IsTreeFault}
 
+-- a fault of the scan is why the listing is refused
 pub fault_told : (files : List FileEntry) (config : Config) (fault : ScanFault) → IsWithinLimits files →
     IsConfiguration files config → IsFault files config fault → IsTreeFault files (of_scan fault)
 fault_told files config (BadName path) within configured is = (within, (config, configured, is))

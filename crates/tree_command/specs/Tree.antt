@@ -1,5 +1,5 @@
 -- What the command `tree` says of an application's files.
-use Rattle.std.specs.Prelude.{◌≡◌, ℕ, List, [], map, All, AllPairs, Contains, ⊤}
+use Rattle.std.specs.Prelude.{ℕ, List, map, All, AllPairs, Contains, ⊤}
 use Rattle.outside.specs.declared.files.FileEntry.{FileEntry}
 use Rattle.app_config.specs.declared.config.Config.{Config}
 use Rattle.tree_scan_sites.specs.declared.spelled.Site.{Site}

@@ -1,5 +1,5 @@
 -- The size of a configuration's text.
-use Rattle.std.proofs.Common.{◌<◌, ◌^◌, List, [], ◌∷◌, length, All, Option, Some, None, Bool, true, false, cond, arith}
+use Rattle.std.proofs.Common.{◌<◌, ◌^◌, List, [], ◌∷◌, length, All, Some, Bool, true, false, cond, arith}
 use Rattle.std.specs.List.{find}
 use Rattle.std.specs.Option.{option_map_or}
 use Rattle.std.proofs.lemmas.Grind.{common_steps}
@@ -7,6 +7,7 @@ use Rattle.std.proofs.lemmas.List.Elements.{All-tail}
 use Rattle.outside.specs.declared.files.FileEntry.{FileEntry}
 use Rattle.tree_report.specs.Configurations.{is_configuration, configuration_text}
 
+-- a file of fewer bytes than a configuration may have
 abbrev pub IsSmall : FileEntry → Type 0
 IsSmall file = length file.bytes < 2 ^ 32
 

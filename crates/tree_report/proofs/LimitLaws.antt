@@ -1,8 +1,8 @@
 -- Laws of the limits.
-use Rattle.std.proofs.Common.{◌≡◌, ℕ, zero, suc, ◌+◌, ◌<◌, ◌≤◌, ◌-◌, ◌^◌, List, [], ◌∷◌, ◌++◌, length, map, min, All}
-use Rattle.std.proofs.Common.{Option, Some, None, IfSome, IfNone, Bool, true, false, cond, nat_lt, slice_index_or, refl}
+use Rattle.std.proofs.Common.{◌≡◌, ℕ, zero, suc, ◌<◌, ◌≤◌, ◌^◌, List, [], ◌∷◌, ◌++◌, length, All}
+use Rattle.std.proofs.Common.{Option, Some, None, IfNone, Bool, true, false, cond, slice_index_or, refl}
 use Rattle.std.proofs.Common.{sym, ap, subst, arith}
-use Rattle.std.specs.List.{sum, find}
+use Rattle.std.specs.List.{find}
 use Rattle.std.proofs.lemmas.Grind.{common_steps}
 use Rattle.std.proofs.lemmas.List.Elements.{All-cons, All-tail}
 use Rattle.outside.specs.declared.files.FileEntry.{FileEntry}
@@ -10,6 +10,7 @@ use Rattle.tree_report.specs.declared.limits.Limit.{Limit}
 use Rattle.tree_report.specs.declared.limits.Limit.TheVariants.{Files, Bytes, Path}
 use Rattle.tree_report.specs.Limits.{IsWithinLimits, IsExceeded, IsFirstLongPath, has_long_path, total_bytes}
 
+-- a file of a path that is not too long
 abbrev pub IsShort : FileEntry → Type 0
 IsShort file = length file.path ≤ 255
 
@@ -79,6 +80,7 @@ pub small_files : (files : List FileEntry) → IsWithinLimits files →
     All (λ (file : FileEntry). length file.bytes < 2 ^ 32) files
 small_files files within = λ k d h. let fits = member_fits files k d h in let all = within.bytes in omega arith
 
+-- what holds anyway holds where nothing was found
 pub if_none : (found : Option ℕ) (P : Type 0) → P → IfNone found P
 if_none None P p = p
 if_none (Some number) P p = tt

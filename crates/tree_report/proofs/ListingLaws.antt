@@ -1,7 +1,7 @@
 -- The order of a listing.
-use Rattle.std.proofs.Common.{◌≡◌, ℕ, ◌<◌, ◌≤◌, Bool, List, length, AllPairs, slice_index_or, true, false, refl, sym}
+use Rattle.std.proofs.Common.{◌≡◌, ℕ, Bool, List, AllPairs, slice_index_or, true, false}
 use Rattle.std.proofs.Common.{ap, arith}
-use Rattle.std.specs.Ordering.{is_lt, nat_cmp}
+use Rattle.std.specs.Ordering.{is_lt}
 use Rattle.std.specs.Cmp.{IsStrictWeakOrder}
 use Rattle.std.specs.List.Sorted.{IsSortedBy}
 use Rattle.std.proofs.lemmas.Cmp.{nat_list_cmp_total}
@@ -13,6 +13,7 @@ use Rattle.tree_report.specs.declared.listing.ListedSite.{ListedSite}
 abbrev pub comes_before : ListedSite → ListedSite → Bool
 comes_before site other = is_lt (order site.constant other.constant)
 
+-- that a site comes before another by its printed path is an order
 pub comes_before-is-order : IsStrictWeakOrder comes_before
 comes_before-is-order = ranks_by nat_list_cmp_total (λ (site : ListedSite). site.constant)
 

@@ -1,5 +1,5 @@
 -- The texts that tell why an application's files are not used.
-use Rattle.std.specs.Prelude.{ℕ, List, [], ◌∷◌, ◌++◌, codes}
+use Rattle.std.specs.Prelude.{ℕ, List, ◌++◌, codes}
 use Rattle.std.specs.Fmt.{decimal}
 use Rattle.app_config.specs.Configuration.{configuration_path}
 use Rattle.app_config.specs.declared.config.ConfigFault.{ConfigFault}

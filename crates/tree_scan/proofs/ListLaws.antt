@@ -1,6 +1,6 @@
 -- What the files up to some place spell, file by file.
 use Rattle.std.proofs.Common.{◌≡◌, ◌↔◌, ◌⊎◌, ℕ, suc, ◌<◌, ◌≤◌, ◌+◌, List, [], ◌∷◌, ◌++◌, length, take, drop, get_or}
-use Rattle.std.proofs.Common.{Option, Some, None, slice_get, Contains, All, refl, sym, ap, ◌∙◌, subst, inl, inr, arith}
+use Rattle.std.proofs.Common.{Option, Some, None, slice_get, Contains, refl, sym, ap, ◌∙◌, subst, inl, inr, arith}
 use Rattle.std.proofs.lemmas.List.{get_or-take, length-take-le}
 use Rattle.std.proofs.Math.Seq.{split_at}
 use Rattle.std.proofs.lemmas.List.Elements.{Contains-push, Contains-push_cases, Contains-append_left}
@@ -13,7 +13,7 @@ use Rattle.tree_scan_sites.specs.Listed.{Lists}
 use Rattle.tree_scan.specs.declared.spelling.RootedConstant.{RootedConstant}
 use Rattle.tree_scan.specs.declared.fault.ScanFault.{ScanFault}
 use Rattle.tree_scan.specs.declared.fault.ScanFault.TheVariants.{BadName, TwoRoots, Memory}
-use Rattle.tree_scan.specs.Spells.{SpellsConstant, Spells, HasBadName, IsFirstBadName}
+use Rattle.tree_scan.specs.Spells.{SpellsConstant, Spells, HasBadName}
 use Rattle.tree_scan.specs.Spelling.{SpelledBy, IsNameFault, IsNameFaultOf}
 
 -- the list has what the files before this place spell
@@ -93,16 +93,14 @@ module _ (roots : List Root) (config : Config) (files : List FileEntry) (place :
     ],
   )
 
-pub nothing_listed : (roots : List Root) (config : Config) (files : List FileEntry) →
-    ListsBefore roots config files 0 []
-nothing_listed roots config files c r f = (λ h. absurd (omega (arith, h.1)), λ h. absurd (omega (arith, h.0)))
-
+-- what is listed of all files is what they spell
 pub all_listed : (roots : List Root) (config : Config) (files : List FileEntry) (place : ℕ)
     (spelled : List Spelled) → length files ≤ place → ListsBefore roots config files place spelled →
     (c : List (List ℕ)) (r f : ℕ) → Lists spelled c r f ↔ Spells roots config files c r f
 all_listed roots config files place spelled over all c r f =
     (λ h. ((all c r f).0 h).1, λ s. (all c r f).1 (omega (arith, over, slice_get_within files f s.entry s.stands), s))
 
+-- an option without a value is none
 pub none_there : (found : Option RootedConstant) → ((x : RootedConstant) → found ≡ Some x → ⊥) → found ≡ None
 none_there None h = refl
 none_there (Some x) h = absurd (h x refl)

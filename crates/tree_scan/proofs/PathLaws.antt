@@ -1,6 +1,6 @@
 -- The paths of files that are told by their numbers.
-use Rattle.std.proofs.Common.{◌≡◌, ◌↔◌, ℕ, zero, suc, ◌<◌, ◌+◌, List, [], ◌∷◌, length, map, get_or, Some, None}
-use Rattle.std.proofs.Common.{slice_get, Result, Ok, Err, IfOk, Contains, All, AllPairs, refl, sym, ap, ◌∙◌, subst}
+use Rattle.std.proofs.Common.{◌≡◌, ℕ, zero, suc, ◌<◌, List, [], ◌∷◌, length, map, get_or, Some}
+use Rattle.std.proofs.Common.{slice_get, Result, Ok, Err, IfOk, Contains, All, refl, sym, ap, ◌∙◌, subst}
 use Rattle.std.proofs.Common.{arith}
 use Rattle.std.specs.List.Sorted.{IsStrictlyIncreasing}
 use Rattle.std.proofs.lemmas.List.{length-map}
@@ -23,12 +23,14 @@ has_path files n lt = let r = entry_at files n lt in (r.0, r.1, sym (ap path_in 
 path_is : (files : List FileEntry) (n : ℕ) (path : List ℕ) → HasPath files n path → path_at files n ≡ path
 path_is files n path h = ap path_in h.1 ∙ h.2
 
+-- the image at a place is that of the member there
 pub at_map : {X Y : Type 0} (f : X → Y) (xs : List X) (i : ℕ) (d : Y) (e : X) → i < length xs →
     get_or (map f xs) i d ≡ f (get_or xs i e)
 at_map f [] i d e lt = absurd (omega (arith, lt))
 at_map f (x ∷ xs) zero d e lt = refl
 at_map f (x ∷ xs) (suc i) d e lt = at_map f xs i d e (omega (arith, lt))
 
+-- the path at a place is that of the file there
 pub at_path : (files : List FileEntry) (n : ℕ) (d : List ℕ) → n < length files →
     get_or (paths_of files) n d ≡ path_at files n
 at_path [] n d lt = absurd (omega (arith, lt))
@@ -61,6 +63,7 @@ module _ (files : List FileEntry) (numbers : List ℕ) (within : All (λ n. n < 
       (Contains-from_in (path_at files h.0) (map (path_at files) numbers)
       (in_mapped (path_at files) h.0 numbers (in_from_Contains h.0 numbers h.2)))
 
+-- the paths of rising numbers of files rise, and are those of these files
 pub are_paths : (files : List FileEntry) (numbers : List ℕ) → All (λ n. n < length files) numbers →
     Rising (paths_of files) → IsStrictlyIncreasing numbers →
     ArePathsOf files (Contains numbers) (map (path_at files) numbers)

@@ -1,5 +1,5 @@
 -- The longest root above a path is one, and what stands below it.
-use Rattle.std.proofs.Common.{◌≡◌, ◌≢◌, ◌⊎◌, ℕ, ◌<◌, ◌≤◌, ◌+◌, List, [], ◌∷◌, ◌++◌, length, map, take, drop, get_or}
+use Rattle.std.proofs.Common.{◌≡◌, ◌≢◌, ◌⊎◌, ℕ, ◌<◌, List, [], ◌∷◌, ◌++◌, length, get_or}
 use Rattle.std.proofs.Common.{Some, slice_get, slice_index, Contains, AllPairs, refl, sym, ap, ◌∙◌, subst, inl, inr}
 use Rattle.std.proofs.Common.{arith}
 use Rattle.std.proofs.lemmas.List.{length-append, length-map}
@@ -8,7 +8,6 @@ use Rattle.std.proofs.lemmas.Option.{slice_get_within, get_or_from_slice_get}
 use Rattle.std.proofs.lemmas.List.Elements.{Contains-get_or}
 use Rattle.tree_scan_roots.specs.declared.roots.Root.{Root}
 use Rattle.tree_scan_roots.specs.Roots.{root_paths}
-use Rattle.tree_scan_roots.specs.Directories.{IsAbove}
 use Rattle.tree_scan_roots.specs.Above.{IsLongestAbove, NoneAbove}
 use Rattle.tree_scan_names.specs.Spellings.{above, behind}
 use Rattle.tree_scan.proofs.PathLaws.{at_map}
@@ -17,9 +16,11 @@ use Rattle.tree_scan.proofs.PathLaws.{at_map}
 pub at_root : (root path below : List ℕ) → path ≡ root ++ 47 ∷ below → above path (length root) ≡ root
 at_root root path below e = rw e (take-append_seam root (47 ∷ below))
 
+-- what stands behind a root's slash is the part of the path below it
 pub below_root : (root path below : List ℕ) → path ≡ root ++ 47 ∷ below → behind path (length root) ≡ below
 below_root root path below e = rw e (drop-append-add root (47 ∷ below) 1)
 
+-- a root above a path is shorter than it
 pub inside_path : (root path below : List ℕ) → path ≡ root ++ 47 ∷ below → length root < length path
 inside_path root path below e = rw (e, length-append root (47 ∷ below)) (omega arith)
 
@@ -27,6 +28,7 @@ slash_behind : (root below : List ℕ) → slice_index (root ++ 47 ∷ below) (l
 slash_behind [] below = refl
 slash_behind (b ∷ root) below = slash_behind root below
 
+-- behind a root above a path stands a slash
 pub slash_there : (root path below : List ℕ) → path ≡ root ++ 47 ∷ below → slice_index path (length root) ≡ 47
 slash_there root path below e = rw e (slash_behind root below)
 
@@ -34,6 +36,7 @@ among : (roots : List Root) (n : ℕ) (root : Root) → slice_get roots n ≡ So
 among roots n root e = subst (λ r. Contains roots r) (get_or_from_slice_get roots n root root e)
     (Contains-get_or roots n root (slice_get_within roots n root e))
 
+-- where no root is above a path, there is no longest one
 pub none_longest : (roots : List Root) (path : List ℕ) (n : ℕ) → NoneAbove roots path → IsLongestAbove roots path n → ⊥
 none_longest roots path n none l = none l.root (among roots n l.root l.at) l.above
 
@@ -74,6 +77,7 @@ apart roots m n a b distinct ea eb e lt =
 three : (m n : ℕ) → (m < n) ⊎ ((n < m) ⊎ (m ≡ n))
 three m n = grind arith
 
+-- the longest root above a path is one alone
 pub one_number : (roots : List Root) (path : List ℕ) (m n : ℕ) → AllPairs (λ p q. p ≢ q) (root_paths roots) →
     IsLongestAbove roots path m → IsLongestAbove roots path n → m ≡ n
 one_number roots path m n distinct a b = elim (three m n) [

@@ -1,5 +1,5 @@
 -- The sites of an application, from what its files spell.
-use Rattle.std.proofs.Common.{◌≡◌, ◌↔◌, ℕ, ◌<◌, List, length, get_or, Contains, All, refl, sym, ap, ◌∙◌, subst}
+use Rattle.std.proofs.Common.{◌≡◌, ◌↔◌, ℕ, ◌<◌, List, length, get_or, Contains, All, sym, subst}
 use Rattle.std.specs.List.Sorted.{IsPermutation}
 use Rattle.std.proofs.lemmas.List.Elements.{Contains-get_or}
 use Rattle.std.proofs.lemmas.Option.{slice_get_within}
@@ -14,7 +14,7 @@ use Rattle.tree_scan_sites.specs.Sites.{IsShadowed}
 use Rattle.tree_scan_sites.proofs.SiteLaws.{SameSpellings, same_back, same_shadowed, same_listed}
 use Rattle.tree_scan.specs.Spells.{Spells, HasBadName}
 use Rattle.tree_scan.specs.Scanned.{Scanned}
-use Rattle.tree_scan.specs.Sites.{AreSites, ArePathsOf, HasPath}
+use Rattle.tree_scan.specs.Sites.{AreSites, ArePathsOf}
 
 -- what a table lists is what the files spell
 pub table_spells : (roots : List Root) (config : Config) (files : List FileEntry) (spelled table : List Spelled) →
@@ -49,6 +49,7 @@ paths_by files P Q paths same h = record {
   rising = h.rising;
 }
 
+-- the table of what the files spell, and the paths of the shadowed files, are the sites
 pub are_sites : (roots : List Root) (config : Config) (files : List FileEntry) (spelled table : List Spelled)
     (numbers : List ℕ) (paths : List (List ℕ)) (sites : Scanned) →
     NamesOnce config.roots → AreRoots (paths_of files) config.roots roots → IsPermutation spelled table →

@@ -1,12 +1,12 @@
 -- What a path spells, told by its part below the longest root.
-use Rattle.std.proofs.Common.{◌≡◌, ◌≢◌, ◌↔◌, ◌⊎◌, ℕ, List, ◌∷◌, ◌++◌, length, Option, Some, slice_get, AllPairs, refl}
+use Rattle.std.proofs.Common.{◌≡◌, ◌≢◌, ◌↔◌, ℕ, List, ◌++◌, length, Some, slice_get, AllPairs, refl}
 use Rattle.std.proofs.Common.{sym, ap, ◌∙◌, subst, inl, inr}
 use Rattle.app_config.specs.declared.config.Config.{Config}
 use Rattle.tree_scan_roots.specs.declared.roots.Root.{Root}
 use Rattle.tree_scan_roots.specs.Roots.{root_paths}
 use Rattle.tree_scan_roots.specs.Above.{IsLongestAbove}
-use Rattle.tree_scan_names.specs.Counts.{Counts, IsHidden, IsIgnored}
-use Rattle.tree_scan_names.specs.Below.{EndsInRb, SpellsBelow}
+use Rattle.tree_scan_names.specs.Counts.{Counts}
+use Rattle.tree_scan_names.specs.Below.{SpellsBelow}
 use Rattle.tree_scan_names.specs.Spellings.{above, behind, AreConstants, IsSpelling}
 use Rattle.tree_scan_names.specs.declared.spelling.Spelling.{Spelling}
 use Rattle.tree_scan_names.specs.declared.spelling.Spelling.TheVariants.{Names, Nothing, BadName}
@@ -140,6 +140,7 @@ same_spelling config roots path told number end root s t l p at e st h =
     (subst (λ n. IsSpelling config (above path n) (behind path n) s) k
     (subst (λ q. IsSpelling config (above q end) (behind q end) s) p h))
 
+-- the names behind a root's namespace, by the root that a number finds
 pub same_namespace : (roots : List Root) (path : List ℕ) (number : ℕ) (root : Root)
     (l : IsLongestAbove roots path number) (found names told : List (List ℕ)) →
     slice_get roots number ≡ Some root → found ≡ root.namespace ++ told → told ≡ names →

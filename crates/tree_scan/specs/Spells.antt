@@ -1,5 +1,5 @@
 -- Which file spells which constant (Zeitwerk README, "File structure": a constant path follows from a file path).
-use Rattle.std.specs.Prelude.{◌≡◌, ℕ, List, ◌∷◌, ◌++◌, Some, slice_get, All, Contains}
+use Rattle.std.specs.Prelude.{◌≡◌, ℕ, List, ◌∷◌, ◌++◌, Some, slice_get, All}
 use Rattle.outside.specs.declared.files.FileEntry.{FileEntry}
 use Rattle.app_config.specs.declared.config.Config.{Config}
 use Rattle.tree_scan_roots.specs.declared.roots.Root.{Root}

@@ -52,6 +52,7 @@ cased_pieces (byte ∷ rest) =
       )
     ]
 
+-- casing byte by byte gives the pieces capitalized and joined
 pub cased_from-camelized : (base : List ℕ) → cased_from true base ≡ camelized base
 cased_from-camelized base = (cased_pieces base).0
 
@@ -91,6 +92,7 @@ IsLastFor-one : (pairs : List (List ℕ × List ℕ)) (base name second : List �
 IsLastFor-one pairs base name second l m = last_same l.earlier l.later m.earlier m.later base name second
     (sym l.stands ∙ m.stands) l.last m.last
 
+-- two names of one base are the same
 pub IsCamelized-same : {config : Config} {base other name second : List ℕ} → IsCamelized config base name →
     IsCamelized config other second → base ≡ other → name ≡ second
 IsCamelized-same {config} (overridden {base = base} {name = name} l) (overridden {base = other} {name = second} m) e =
@@ -122,23 +124,27 @@ named_only : (config : Config) (base : List ℕ) (answer : Result (List ℕ) All
 named_only config base (Ok name) h = λ other k. IsCamelized-one config base name other h k
 named_only config base (Err e) h = tt
 
+-- a copy of the last constant of a base is its name
 pub overridden_copy : (config : Config) (base constant : List ℕ) (answer : Result (List ℕ) AllocError) →
     IsLastFor config.inflect base constant → IfOk answer (λ copied. copied ≡ constant) → Named config base answer
 overridden_copy config base constant (Ok name) last same =
     let P : List ℕ → Type 0 = λ x. IsCamelized config base x in subst P (sym same) (overridden last)
 overridden_copy config base constant (Err e) last same = tt
 
+-- a copy of the last constant of a base is its only name
 pub overridden_only : (config : Config) (base constant : List ℕ) (answer : Result (List ℕ) AllocError) →
     IsLastFor config.inflect base constant → IfOk answer (λ copied. copied ≡ constant) → OnlyNamed config base answer
 overridden_only config base constant answer last same =
     named_only config base answer (overridden_copy config base constant answer last same)
 
+-- a base without an inflection has its pieces, capitalized and joined, as its name
 pub plain_made : (config : Config) (base : List ℕ) (answer : Result (List ℕ) AllocError) →
     LacksBase config.inflect base → IfOk answer (λ name. name ≡ camelized base) → Named config base answer
 plain_made config base (Ok name) lacks same =
     let P : List ℕ → Type 0 = λ x. IsCamelized config base x in subst P (sym same) (plain base lacks)
 plain_made config base (Err e) lacks same = tt
 
+-- a base without an inflection has no other name
 pub plain_only : (config : Config) (base : List ℕ) (answer : Result (List ℕ) AllocError) →
     LacksBase config.inflect base → IfOk answer (λ name. name ≡ camelized base) → OnlyNamed config base answer
 plain_only config base answer lacks same = named_only config base answer (plain_made config base answer lacks same)

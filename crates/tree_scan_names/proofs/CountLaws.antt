@@ -120,6 +120,7 @@ passed-last : (config : Config) (directory name : List ℕ) → IsPiece name →
 passed-last config directory name piece h =
     elim h [ inl dot ↦ inl (hidden-last name piece dot) | inr named ↦ inr (name, inl refl, named) ]
 
+-- what is passed over below a directory is so below the one above it
 pub passed-inside : (config : Config) (directory name rest left place : List ℕ) → IsPiece name →
     left ≡ within name rest → place ≡ within directory name →
     IsPassedOver config place rest → IsPassedOver config directory left
@@ -131,6 +132,7 @@ passed-inside config directory name rest left place piece e f h =
       | inr ignored ↦ inr (ignored-inside config directory name rest ignored)
     ])
 
+-- what is passed over below a directory, though its next name is not, is so below that name
 pub passed-next : (config : Config) (directory name rest left place : List ℕ) → IsPiece name →
     left ≡ within name rest → place ≡ within directory name →
     ¬ IsPassed config name place → IsPassedOver config directory left → IsPassedOver config place rest
@@ -149,6 +151,7 @@ passed-next config directory name rest left place piece e f none h =
       ]
     ]
 
+-- a file that is not passed by itself is not passed over below its directory
 pub passed-end : (config : Config) (directory name left place : List ℕ) → IsPiece name → left ≡ name →
     place ≡ within directory name →
     ¬ IsPassed config name place → ¬ IsPassedOver config directory left

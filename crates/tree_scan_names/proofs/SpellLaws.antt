@@ -62,6 +62,7 @@ SpellsBelow-one config directory below names others h k = names-same k h refl re
 
 -- A step from a directory.
 
+-- a step into a directory: its name is added unless it is collapsed
 pub spells-step : (config : Config) (directory here left place rest : List ℕ) (before after more : List (List ℕ))
     (whole : List (List ℕ) → Type 0) → IsPiece here → left ≡ within here rest → place ≡ within directory here →
     AddsDirectory config place here before after →
@@ -89,6 +90,7 @@ spells-step config directory here left place rest before after more whole piece 
           subst whole same (known (name ∷ more) (subst L (sym e) all))
     ]
 
+-- a file spells its base below its directory
 pub spells-file : (config : Config) (directory left here base name : List ℕ) → IsPiece here → left ≡ here →
     here ≡ base ++ ruby_ending → IsCamelized config base name → SpellsBelow config directory left (name ∷ [])
 spells-file config directory left here base name piece e f camel =
@@ -116,6 +118,7 @@ judged-is config root below names counts spells =
       | false ↦ λ e. (counts, (names, spells, λ h. cc (e, h)))
     ] refl
 
+-- the names of a file that counts are its spelling, or a fault
 pub IsSpelling-judged : (config : Config) (root below top rest : List ℕ) (names : List (List ℕ))
     (spelling : Spelling) → top ≡ root → rest ≡ below → ¬ IsPassedOver config top rest →
     SpellsBelow config top rest names → spelling ≡ cond (list_all is_constant names) (Names names) BadName →

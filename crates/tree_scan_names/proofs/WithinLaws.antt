@@ -6,6 +6,7 @@ use Rattle.std.proofs.lemmas.List.Elements.{All-nil, All-cons, All-head, All-tai
 use Rattle.plain_text.specs.Segments.{slash, IsPiece}
 use Rattle.tree_scan_names.specs.Below.{within, ruby_ending, EndsInRb}
 
+-- a path in a directory in another one, grouped otherwise
 pub within_within : (a b c : List ℕ) → within (within a b) c ≡ within a (within b c)
 within_within a b c = append_assoc a (47 ∷ b) (47 ∷ c)
 
@@ -47,6 +48,7 @@ cut_one here below other rest h k e =
 
 -- What ends in `.rb`.
 
+-- the front of a piece is a piece
 pub piece_front : (front rest : List ℕ) → IsPiece (front ++ rest) → IsPiece front
 piece_front [] rest all = All-nil (λ b. b ≢ slash)
 piece_front (byte ∷ front) rest all =
@@ -59,6 +61,7 @@ ending_piece =
     (All-cons (λ b. b ≢ slash) 114 (98 ∷ []) (λ e. cc)
     (All-cons (λ b. b ≢ slash) 98 [] (λ e. cc) (All-nil (λ b. b ≢ slash))))
 
+-- a piece that `.rb` is added to is a piece
 pub file_piece : (base : List ℕ) → IsPiece base → IsPiece (base ++ ruby_ending)
 file_piece base all = All-append (λ b. b ≢ slash) base ruby_ending all ending_piece
 
@@ -74,6 +77,7 @@ ends_behind (a ∷ here) below (byte ∷ front) e = ends_behind here below front
 pub EndsInRb-behind : (path here below : List ℕ) → path ≡ within here below → EndsInRb path → EndsInRb below
 EndsInRb-behind path here below e ends = ends_behind here below ends.0 (ends.1 ∙ e)
 
+-- a path ends in `.rb` where its part below a directory does
 pub EndsInRb-within : (here below : List ℕ) → EndsInRb below → EndsInRb (within here below)
 EndsInRb-within here below ends = (
   within here ends.0,

@@ -4,12 +4,12 @@ use Rattle.std.proofs.Common.{Contains, inl, inr, Option, Some, None, refl, sym,
 use Rattle.std.specs.Prelude.{slice_get, is_some, IfSome, IfNone, MatchOption}
 use Rattle.std.specs.Global.{Vec}
 use Rattle.std.specs.BTreeMap as tree
-use Rattle.std.proofs.lemmas.List.{length-append, take_at, get_or_at, length-take-le, length-map, get_or-map}
+use Rattle.std.proofs.lemmas.List.{length-append, length-take-le, length-map, get_or-map}
 use Rattle.std.proofs.lemmas.Bool.{cases_lt}
 use Rattle.tree_scan_roots.specs.Directories.{IsAbove}
 use Rattle.tree_scan_roots.specs.Keys.{number_of, IsNumbering}
 use Rattle.tree_scan_roots.specs.Roots.{root_paths}
-use Rattle.tree_scan_roots.specs.Above.{IsLongestAbove, NoneAbove}
+use Rattle.tree_scan_roots.specs.Above.{IsLongestAbove}
 use Rattle.tree_scan_roots.specs.declared.roots.Root.{Root}
 use Rattle.tree_scan_roots.proofs.KeyLaws.{no_number}
 use Rattle.tree_scan_roots.proofs.DirectoryLaws.{cut_at}
@@ -18,17 +18,11 @@ use Rattle.tree_scan_roots.proofs.DirectoryLaws.{cut_at}
 abbrev pub AllShorter : (roots : List Root) → (path : List ℕ) → (end : ℕ) → Type 0
 AllShorter roots path end = (root : Root) → Contains roots root → IsAbove root.path path → length root.path < end
 
+-- a directory above a path is shorter than the path
 pub above_shorter : (directory path : List ℕ) → IsAbove directory path → length directory < length path
 above_shorter directory path above = rw above.1 (rw length-append (omega arith))
 
-pub above_front : (directory path : List ℕ) (end : ℕ) → IsAbove directory path → length directory ≡ end →
-    take end path ≡ directory
-above_front directory path end above e = rw above.1 (take_at directory (47 ∷ above.0) end e)
-
-pub above_slash : (directory path : List ℕ) (end : ℕ) → IsAbove directory path → length directory ≡ end →
-    get_or path end 0 ≡ 47
-above_slash directory path end above e = rw above.1 (get_or_at directory 47 above.0 0 end e)
-
+-- what stands before a slash of a path is a directory above it
 pub above_at : (path : List ℕ) (end : ℕ) → end < length path → get_or path end 0 ≡ 47 → IsAbove (take end path) path
 above_at path end lt is = (drop (end + 1) path, cut_at path end lt is)
 
@@ -39,6 +33,7 @@ root_at [] n path e = let z : None ≡ Some path = e in cc
 root_at (root ∷ roots) zero path e = (root, refl, cc)
 root_at (root ∷ roots) (suc n) path e = root_at roots n path e
 
+-- the path of one of the roots is among the roots' paths
 pub path_contained : (roots : List Root) (root : Root) → Contains roots root → Contains (root_paths roots) root.path
 path_contained roots root has = (
   has.0,
@@ -73,22 +68,18 @@ module _ (roots : List Root) (numbers : tree.BTreeMap (Vec ℕ) ℕ) (are : IsNu
             rw at.2 (rw (length-take-le end path (omega arith)) (let l = all other has it in omega arith));
       }
 
-pub none_above : (roots : List Root) (path : List ℕ) → AllShorter roots path 0 → NoneAbove roots path
-none_above roots path all root has above = let l = all root has above in omega arith
-
-pub all_shorter : (roots : List Root) (path : List ℕ) → AllShorter roots path (length path)
-all_shorter roots path root has above = above_shorter root.path path above
-
 -- ---- an option's cases
 pub found_is : {A : Type 0} (o p : Option ℕ) → o ≡ p → A → IfSome o (λ n. A × (p ≡ Some n))
 found_is None p e a = tt
 found_is (Some n) p e a = (a, sym e)
 
+-- a found number, by what was found of it
 pub some_case : (N : Type 0) (A L : ℕ → Type 0) (o : Option ℕ) → is_some o ≡ true → IfSome o A →
     ((n : ℕ) → A n → L n) → MatchOption o N L
 some_case N A L None e h f = let z : false ≡ true = e in cc
 some_case N A L (Some n) e h f = f n h
 
+-- what holds where nothing was found
 pub none_case : {P : Type 0} (o : Option ℕ) → is_some o ≡ false → IfNone o P → P
 none_case None e h = h
 none_case (Some n) e h = let z : true ≡ false = e in cc

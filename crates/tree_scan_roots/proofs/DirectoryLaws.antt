@@ -35,9 +35,11 @@ not_cut text a x is e = is (
   (rw e (get_or_at a 47 x 47 (length a) refl)),
 )
 
+-- a name with one byte more that is no slash is a name
 pub name_more : (text : List ℕ) (byte : ℕ) → IsName text → byte ≢ 47 → IsName (text ++ byte ∷ [])
 name_more text byte is other has = elim (Contains-push_cases text byte 47 has) [ inl h ↦ is h | inr e ↦ other e ]
 
+-- a text around one of its slashes
 pub cut_at : (text : List ℕ) (place : ℕ) → place < length text → get_or text place 0 ≡ 47 →
     text ≡ take place text ++ 47 ∷ drop (place + 1) text
 cut_at text place lt is =
@@ -131,18 +133,7 @@ module _ (path name below : List ℕ) (named : IsName name) (is : path ≡ codes
 abbrev pub NoName : List ℕ → Type 0
 NoName path = (name below : List ℕ) → IsName name → path ≢ codes "app/" ++ (name ++ 47 ∷ below)
 
-pub no_top : (path directory : List ℕ) → NoName path → IsTopRoot directory → IsAbove directory path → ⊥
-no_top path directory none top above = none top.0 above.0 top.1 (above.1 ∙ ap (λ d. d ++ 47 ∷ above.0) top.3
-    ∙ append_assoc (codes "app/") top.0 (47 ∷ above.0))
-
-pub no_concerns : (path directory : List ℕ) → NoName path → IsConcerns directory → IsAbove directory path → ⊥
-no_concerns path directory none concerns above =
-    let e : path ≡ codes "app/" ++ (concerns.0 ++ 47 ∷ (codes "concerns/" ++ above.0)) =
-    above.1 ∙ ap (λ d. d ++ 47 ∷ above.0) concerns.2
-    ∙ append_assoc (codes "app/") (concerns.0 ++ codes "/concerns") (47 ∷ above.0)
-    ∙ ap (λ b. codes "app/" ++ b) (append_assoc concerns.0 (codes "/concerns") (47 ∷ above.0)) in
-    none concerns.0 (codes "concerns/" ++ above.0) concerns.1 e
-
+-- a path below app without a further slash has no name of a directory there
 pub no_name : (path below : List ℕ) → path ≡ codes "app/" ++ below → IsName below → NoName path
 no_name path below e is name rest named e' =
     not_cut below name rest is (append_cancel_left (codes "app/") below (name ++ 47 ∷ rest) (sym e ∙ e'))
@@ -178,16 +169,19 @@ exists_cases paths path directory has = elim (Contains-push_cases paths path has
   | inr e ↦ inr (subst (IsAbove directory) (sym e) has.4)
 ]
 
+-- a directory with a file below it still has one among more files
 pub exists_still : (paths : List (List ℕ)) (path directory : List ℕ) → Exists paths directory →
     Exists (paths ++ path ∷ []) directory
 exists_still paths path directory has =
     let h = Contains-append_left paths (path ∷ []) has.1 (has.0, has.2, has.3) in
     (h.0, has.1, h.1, h.2, has.4)
 
+-- a directory above a new path has a file below it
 pub exists_now : (paths : List (List ℕ)) (path directory : List ℕ) → IsAbove directory path →
     Exists (paths ++ path ∷ []) directory
 exists_now paths path directory above = Any-push (IsAbove directory) paths path above
 
+-- the default roots of one file more
 pub roots_more : (paths : List (List ℕ)) (path directory : List ℕ) (old new : Type 0) →
     old ↔ IsDefaultRoot paths directory
     → new ↔ (old ⊎ ((IsTopRoot directory ⊎ IsConcerns directory) × IsAbove directory path)) →

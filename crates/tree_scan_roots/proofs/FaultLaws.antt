@@ -43,6 +43,7 @@ not_before lines a b first second lt =
     (sym (before_is lines b second m a less) ∙ earlier lines a first ∙ sym (here lines a first a)
     ∙ before_is lines b second k a lt)
 
+-- root lines have one first fault at most
 pub one_fault : (lines : List RootLine) (a b : List ℕ) → IsTwoRoots lines a → IsTwoRoots lines b → a ≡ b
 one_fault lines a b first second = elim (cases_order (length (named first.before)) (length (named second.before))) [
   | inl e ↦ sym (here lines a first a) ∙ ap (λ k. get_or (named lines) k a) e ∙ here lines b second a

@@ -87,11 +87,6 @@ module _ (bs : List ℕ) where
             (cases_Bool (bytes_eq bs cs))),
       )
 
--- a path that the set has already
-pub set_same : (s : sorted.BTreeSet (Vec ℕ)) (bs : List ℕ) → Has s bs → (cs : List ℕ) →
-    Has s cs ↔ (Has s cs ⊎ (bs ≡ cs))
-set_same s bs is cs = ((λ h. inl h), (λ h. elim h [ inl was ↦ was | inr e ↦ subst (Has s) e is ]))
-
 -- ---- keys in order
 pub keys_rise : (keys : List (Vec ℕ)) → IsStrictlySortedBy key_order keys → Rising (map (λ k. k.items) keys)
 keys_rise [] h = λ i j d lt within. absurd (omega arith)
@@ -107,10 +102,12 @@ get_left [] ys n x e = cc
 get_left (y ∷ xs) ys zero x e = e
 get_left (y ∷ xs) ys (suc n) x e = get_left xs ys n x e
 
+-- the member that was pushed last is at the old length
 pub get_last : {X : Type 0} (xs : List X) (x : X) → slice_get (xs ++ x ∷ []) (length xs) ≡ Some x
 get_last [] x = refl
 get_last (y ∷ xs) x = get_last xs x
 
+-- a member of a list with one more is an old one or the new one
 pub get_cases : {X : Type 0} (xs : List X) (x y : X) (n : ℕ) → slice_get (xs ++ x ∷ []) n ≡ Some y →
     (slice_get xs n ≡ Some y) ⊎ ((n ≡ length xs) × (x ≡ y))
 get_cases [] x y zero e = inr (refl, cc)
@@ -118,20 +115,25 @@ get_cases [] x y (suc n) e = let z : None ≡ Some y = e in cc
 get_cases (z ∷ xs) x y zero e = inl e
 get_cases (z ∷ xs) x y (suc n) e = elim (get_cases xs x y n e) [ inl h ↦ inl h | inr h ↦ inr (ap suc h.0, h.1) ]
 
+-- what stands at a place is contained
 pub contains_got : {X : Type 0} (xs : List X) (n : ℕ) (x : X) → slice_get xs n ≡ Some x → Contains xs x
 contains_got xs n x e = (n, slice_get_within xs n x e, get_or_from_slice_get xs n x x e)
 
+-- what is contained stands at its place
 pub got_contains : {X : Type 0} (xs : List X) (x : X) → (has : Contains xs x) → slice_get xs has.0 ≡ Some x
 got_contains xs x has = slice_get-get_or xs has.0 x has.1 ∙ ap (λ y. Some y) has.2
 
+-- an option that is some has a value
 pub some_is : {X : Type 0} (o : Option X) → is_some o ≡ true → (x : X) × (o ≡ Some x)
 some_is None e = let z : false ≡ true = e in cc
 some_is (Some x) e = (x, refl)
 
+-- an option that is not some is none
 pub none_is : {X : Type 0} (o : Option X) → is_some o ≡ false → o ≡ None
 none_is None e = refl
 none_is (Some x) e = let z : true ≡ false = e in cc
 
+-- an option without a value is none
 pub lacks : {X : Type 0} (o : Option X) → ((x : X) → o ≡ Some x → ⊥) → o ≡ None
 lacks None h = refl
 lacks (Some x) h = absurd (h x refl)

@@ -43,6 +43,7 @@ path_at (first ∷ lines) (suc n) line e d = let h = path_at lines n line e d in
 bytes_differ : (a b : List ℕ) → a ≢ b → bytes_eq a b ≡ false
 bytes_differ a b apart = ⊎_elim (λ y. absurd (apart ((bytes_eq-Decides a b).0 y))) (λ n. n) (cases_Bool (bytes_eq a b))
 
+-- the namespace of a path is that of the one line that names it
 pub namespace_at : (lines : List RootLine) (n : ℕ) (line : RootLine) (path : List ℕ) → NamesOnce lines →
     slice_get lines n ≡ Some line → line.path ≡ path → namespace_of lines path ≡ line.namespace
 namespace_at [] n line path once e same = let z : None ≡ Some line = e in cc
@@ -58,6 +59,7 @@ namespace_at (first ∷ lines) (suc n) line path once e same =
     cond-false (bytes_eq first.path path) first.namespace (namespace_of lines path)
     (bytes_differ first.path path apart) ∙ namespace_at lines n line path (once_tail first lines once) e same
 
+-- a path that no line names has the namespace Object
 pub namespace_nowhere : (lines : List RootLine) (path : List ℕ) → (Contains (named lines) path → ⊥) →
     namespace_of lines path ≡ []
 namespace_nowhere [] path none = refl
@@ -106,6 +108,7 @@ abbrev pub IsSoFar : (lines : List RootLine) (keys : List (Vec ℕ)) (roots : Li
 IsSoFar lines keys roots left = roots ++ map (default_root lines) (map (λ key. key.items) left)
     ≡ map (default_root lines) (map (λ key. key.items) keys)
 
+-- the next directory in order is not yet among the roots
 pub so_far_other : (lines : List RootLine) (keys : List (Vec ℕ)) (roots : List Root) (key : Vec ℕ) (left : List (Vec ℕ))
     → IsStrictlySortedBy key_order keys → IsSoFar lines keys roots (key ∷ left) →
     Contains (root_paths roots) key.items → ⊥
@@ -189,9 +192,11 @@ module _ (defaults : List Root) (lines : List RootLine) where
         ∙ append-nil _ in
         ap (λ ls. defaults ++ map line_root ls) more
 
+-- a root of this path and namespace
 abbrev pub root_of : List ℕ → List (List ℕ) → Root
 root_of path namespace = record { path = path; namespace = namespace }
 
+-- a root with the path and the namespace of a line is the root of that line
 pub root_is : (path : List ℕ) (namespace : List (List ℕ)) (line : RootLine) → path ≡ line.path →
     namespace ≡ line.namespace → root_of path namespace ≡ line_root line
 root_is path namespace line p n = rw (p, n) refl
@@ -237,6 +242,7 @@ has_contained : (keys : List (Vec ℕ)) (path : List ℕ) → list_any (λ k. is
 has_contained [] path = refl
 has_contained (key ∷ keys) path = rw (is_eq-slice_cmp path key.items, has_contained keys path) refl
 
+-- the directories in order and then the other lines are the roots
 pub are_roots : (paths : List (List ℕ)) (lines : List RootLine) (found : sorted.BTreeSet (Vec ℕ)) (roots : List Root)
     → sorted.IsOrdered key_order found → ((directory : List ℕ) → Has found directory ↔ IsDefaultRoot paths directory)
     → roots ≡ map (default_root lines) (key_paths found) ++ map line_root
@@ -254,6 +260,7 @@ are_roots paths lines found roots ordered exact joined = record {
   joined = joined;
 }
 
+-- what was added behind the default roots, said of the directories in place of the roots' paths
 pub joined_is : (lines : List RootLine) (directories : List (List ℕ)) (first whole : List Root) →
     first ≡ map (default_root lines) directories
     → whole ≡ first ++ map line_root (filter (names_none_of (root_paths first)) lines) →

@@ -18,6 +18,7 @@ last_here zero (m ∷ []) last e is = ap (λ k. k ∷ []) (sym is)
 last_here zero (m ∷ k ∷ p) last e is = absurd (omega (arith, e))
 last_here (suc n) (m ∷ p) last e is = last_here n p last (omega (arith, e)) is
 
+-- a path of another length gives no child name
 pub last_elsewhere : (n : ℕ) (p : List (List ℕ)) → (n + 1 ≡ length p → ⊥) → last_behind n p ≡ []
 last_elsewhere n [] ne = refl
 last_elsewhere zero (m ∷ []) ne = absurd (ne (omega arith))
@@ -44,6 +45,7 @@ abbrev pub begun : (front : List (List ℕ)) → List (List (List ℕ)) → List
 begun front [] = []
 begun front (path ∷ paths) = cond (begins front path) (last_behind (length front) path ++ begun front paths) []
 
+-- a child that is told is one of the paths
 pub child_in : (c : List (List ℕ)) (n : List ℕ) (paths : List (List (List ℕ))) → In n (begun c paths) →
     In (c ++ n ∷ []) paths
 child_in c n [] h = absurd h
@@ -55,6 +57,7 @@ child_in c n (p ∷ paths) h =
       | false ↦ λ e k. absurd k
     ] refl h
 
+-- a path one level below is told as a child
 pub in_child : (c : List (List ℕ)) (n : List ℕ) (paths : List (List (List ℕ))) → Each (IsBeforePath c) paths →
     Rises IsBeforePath paths → In (c ++ n ∷ []) paths → In n (begun c paths)
 in_child c n [] after rise h = absurd h
@@ -79,6 +82,7 @@ last_rises zero (m ∷ []) = (tt, tt)
 last_rises zero (m ∷ k ∷ p) = tt
 last_rises (suc n) (m ∷ p) = last_rises n p
 
+-- the children rise where the paths do
 pub begun_rise : (c : List (List ℕ)) (paths : List (List (List ℕ))) → Rises IsBeforePath paths →
     Rises IsBefore (begun c paths)
 begun_rise c [] rise = tt
@@ -133,6 +137,7 @@ begins_child (x ∷ front) (y ∷ n ∷ q) (z ∷ previous) h k lt =
       | false ↦ λ e a. absurd (false≢true a)
     ] refl h
 
+-- among paths that climb, the run of longer paths has all children
 pub begun_by_length : (c previous : List (List ℕ)) (paths : List (List (List ℕ))) → begins c previous ≡ true →
     Climbs previous paths → Each (IsBeforePath c) paths → children_run (length c) paths ≡ begun c paths
 begun_by_length c previous [] h climbs after = refl
@@ -153,6 +158,7 @@ begun_by_length c previous (q ∷ paths) h climbs after =
           ] refl
     ] refl
 
+-- a path begins with itself
 pub begins_itself : (c : List (List ℕ)) → begins c c ≡ true
 begins_itself [] = refl
 begins_itself (x ∷ c) = rw (name_eq-refl x) (begins_itself c)

@@ -27,6 +27,7 @@ pub spelled_total : IsTotalOrder spelled_order
 spelled_total = then_total (on_total (λ s. s.constant) path_order_total)
     (then_total (on_total (λ s. s.root) nat_cmp_total) (on_total (λ s. s.file) nat_cmp_total))
 
+-- spellings are ordered by their order
 pub spelled_ranks : IsStrictWeakOrder (λ (s : Spelled) (t : Spelled). is_lt (spelled_order s t))
 spelled_ranks = ranks_by spelled_total (λ s. s)
 
@@ -34,13 +35,16 @@ spelled_ranks = ranks_by spelled_total (λ s. s)
 abbrev pub NotAfter : Spelled → Spelled → Type 0
 NotAfter s t = is_lt (spelled_order t s) ≡ false
 
+-- of sorted spellings no later one comes before an earlier one
 pub in_order : (spelled : List Spelled) → IsSorted spelled_order spelled → (i j : ℕ) (d : Spelled) → i ≤ j →
     j < length spelled → NotAfter (get_or spelled i d) (get_or spelled j d)
 in_order spelled h = sorted_far (λ s t. is_lt (spelled_order s t)) spelled_ranks spelled h
 
+-- sorted spellings rise
 pub in_order_rise : (spelled : List Spelled) → IsSorted spelled_order spelled → Rises NotAfter spelled
 in_order_rise spelled h = rises_from_AllPairs NotAfter spelled (λ i j d a b. in_order spelled h i j d (omega arith) b)
 
+-- a spelling that is not after another has no later constant
 pub not_behind : (s t : Spelled) → NotAfter s t → NotBehind s t
 not_behind s t h =
     elim (path_order t.constant s.constant) as (λ o. path_order s.constant t.constant ≡ ordering_reverse o →
@@ -51,6 +55,7 @@ not_behind s t h =
       | Greater ↦ λ e g. ap is_gt e
     ] (path_order_total.antisymm s.constant t.constant) h
 
+-- the constants of rising spellings rise
 pub constants_rise : (spelled : List Spelled) → Rises NotAfter spelled → Rises NotBehind spelled
 constants_rise spelled h = rises_weaker NotAfter NotBehind not_behind spelled h
 
@@ -107,6 +112,7 @@ first_later c s spelled file other f = record {
   first = λ t h e. elim h [ inl one ↦ absurd (other (ap (λ u. u.constant) one ∙ e)) | inr k ↦ f.first t k e ];
 }
 
+-- the first file that is found has its root and no earlier spelling
 pub first_is : (c : List (List ℕ)) (spelled : List Spelled) → Rises NotAfter spelled → (file : ℕ) →
     first_file c spelled ≡ Some file → IsFirst c spelled file
 first_is c [] rise file e = cc
@@ -126,6 +132,7 @@ none_of Less file rest h = (λ z. cc, h)
 none_of Equal file rest h = cc
 none_of Greater file rest h = (λ z. cc, h)
 
+-- where no first file is found, nothing spells the constant
 pub first_none : (c : List (List ℕ)) (spelled : List Spelled) → first_file c spelled ≡ None → (t : Spelled) →
     In t spelled → t.constant ≡ c → ⊥
 first_none c [] e t h same = h
@@ -147,6 +154,7 @@ one_file P c f g h k = same_file h.0 k.0 f g (h.2 k.0 g k.1) (k.2 h.0 f h.1)
       | inr e ↦ elim b [ inl gt ↦ absurd (omega (arith, e.0, gt)) | inr d ↦ omega (arith, e.1, d.1) ]
     ]
 
+-- the first file that is found is the file of the constant
 pub file_from_first : (spelled : List Spelled) → Rises NotAfter spelled → (c : List (List ℕ)) (file : ℕ) →
     first_file c spelled ≡ Some file → IsFileOf (Lists spelled) c file
 file_from_first spelled rise c file e =
@@ -157,11 +165,13 @@ file_from_first spelled rise c file e =
           f.first (spelling c root other) (in_from_Contains (spelling c root other) spelled h) refl,
     )
 
+-- where no first file is found, no root and no file spells the constant
 pub none_from_first : (spelled : List Spelled) (c : List (List ℕ)) → first_file c spelled ≡ None → (root file : ℕ) →
     Lists spelled c root file → ⊥
 none_from_first spelled c e root file h = first_none c spelled e (spelling c root file)
     (in_from_Contains (spelling c root file) spelled h) refl
 
+-- the file of a constant is found first
 pub first_from_file : (spelled : List Spelled) → Rises NotAfter spelled → (c : List (List ℕ)) (file : ℕ) →
     IsFileOf (Lists spelled) c file → first_file c spelled ≡ Some file
 first_from_file spelled rise c file h =
@@ -176,6 +186,7 @@ lt_is Less h = refl
 lt_is Equal h = cc
 lt_is Greater h = cc
 
+-- sorted spellings are parted by whether their constants come before a path
 pub parted : (c : List (List ℕ)) (spelled : List Spelled) → IsSorted spelled_order spelled →
     IsPartitionedBy (comes_before c) spelled
 parted c spelled h i j d le lt before =
@@ -214,6 +225,7 @@ none_behind c s (t ∷ spelled) g h =
     ap (λ o. cond (is_eq o) (Some t.file) (first_file c spelled)) (later_is c t.constant far)
     ∙ none_behind c s spelled g h.1
 
+-- where all constants come before a path, none spells it
 pub first_past : (c : List (List ℕ)) (spelled : List Spelled) (place : ℕ) →
     AllWithin (λ s. comes_before c s ≡ true) spelled 0 place → place ≡ length spelled → first_file c spelled ≡ None
 first_past c spelled place front e = skipped c spelled place front
@@ -266,6 +278,7 @@ eq_is Less h = cc
 eq_is Equal h = refl
 eq_is Greater h = cc
 
+-- a spelling whose constant is tied with the path
 pub is_first : (c : List (List ℕ)) (s : Spelled) → is_eq (path_order s.constant c) ≡ true →
     path_order s.constant c ≡ Equal
 is_first c s h = eq_is (path_order s.constant c) h

@@ -16,9 +16,11 @@ use Rattle.tree_scan_sites.specs.Paths.{path_order, name_eq}
 pub path_order_total : IsTotalOrder path_order
 path_order_total = lists_total nat_list_cmp_total
 
+-- a path is tied with itself
 pub order_itself : (c : List (List ℕ)) → path_order c c ≡ Equal
 order_itself c = tied_itself path_order_total c
 
+-- a name is tied with itself
 pub name_itself : (n : List ℕ) → order n n ≡ Equal
 name_itself n = tied_itself nat_list_cmp_total n
 
@@ -27,6 +29,7 @@ then_equal Less u h = cc
 then_equal Equal u h = (refl, h)
 then_equal Greater u h = cc
 
+-- paths that tie are the same
 pub exact_paths : (a b : List (List ℕ)) → path_order a b ≡ Equal → a ≡ b
 exact_paths [] [] h = refl
 exact_paths [] (y ∷ ys) h = cc
@@ -37,15 +40,19 @@ exact_paths (x ∷ xs) (y ∷ ys) h =
     let behind : xs ≡ ys = exact_paths xs ys both.1 in
     cc
 
+-- what one path is before is behind it
 pub later_is : (a b : List (List ℕ)) → path_order a b ≡ Less → path_order b a ≡ Greater
 later_is a b h = path_order_total.antisymm b a ∙ ap ordering_reverse h
 
+-- what one path is behind is before it
 pub earlier_is : (a b : List (List ℕ)) → path_order a b ≡ Greater → path_order b a ≡ Less
 earlier_is a b h = path_order_total.antisymm b a ∙ ap ordering_reverse h
 
+-- no path is before itself
 pub not_before_itself : (a : List (List ℕ)) → path_order a a ≡ Less → ⊥
 not_before_itself a h = let z : Less ≡ Equal = sym h ∙ order_itself a in cc
 
+-- of two paths not each is before the other
 pub not_both : (a b : List (List ℕ)) → path_order a b ≡ Less → path_order b a ≡ Less → ⊥
 not_both a b h k = not_before_itself a (path_order_total.trans a b a h k)
 
@@ -71,6 +78,7 @@ at_most_before a b c h k = elim h [
 pub name_eq-true : (a b : List ℕ) → name_eq a b ≡ true → a ≡ b
 name_eq-true a b h = (bytes_decides a b).0 h
 
+-- a name equals itself
 pub name_eq-refl : (a : List ℕ) → name_eq a a ≡ true
 name_eq-refl a = (bytes_decides a a).1 refl
 
@@ -81,10 +89,12 @@ begins [] path = true
 begins (name ∷ front) [] = false
 begins (name ∷ front) (first ∷ path) = cond (name_eq name first) (begins front path) false
 
+-- a path begins with its front
 pub begins-append : (front names : List (List ℕ)) → begins front (front ++ names) ≡ true
 begins-append [] names = refl
 begins-append (x ∷ front) names = rw (name_eq-refl x) (begins-append front names)
 
+-- a path that begins with a front goes on with names
 pub begins-true : (front path : List (List ℕ)) → begins front path ≡ true → (names : List (List ℕ))
     × (path ≡ front ++ names)
 begins-true [] path h = (path, refl)
@@ -103,6 +113,7 @@ pub front_before : (front : List (List ℕ)) (name : List ℕ) (names : List (Li
 front_before [] name names = refl
 front_before (x ∷ front) name names = rw (name_itself x) (front_before front name names)
 
+-- a front is the path or comes before it
 pub front_at_most : (front names : List (List ℕ)) → (front ≡ front ++ names)
     ⊎ (path_order front (front ++ names) ≡ Less)
 front_at_most front [] = inl (sym (append_nil front))
@@ -150,6 +161,7 @@ between (x ∷ front) (y ∷ a) (z ∷ b) h k e =
       | false ↦ λ s t. absurd (false≢true t)
     ] refl e
 
+-- tests that imply each other give one answer
 pub same_tests : (a b : Bool) → (a ≡ true → b ≡ true) → (b ≡ true → a ≡ true) → a ≡ b
 same_tests true b f g = sym (f refl)
 same_tests false true f g = g refl

@@ -22,6 +22,7 @@ longer_more n [] lt = absurd (omega (arith, lt))
 longer_more zero (x ∷ c) lt = refl
 longer_more (suc n) (x ∷ c) lt = ap (map (λ p. x ∷ p)) (longer_more n c (omega (arith, lt)))
 
+-- no beginning of a path is longer than the path
 pub longer_none : (n : ℕ) (c : List (List ℕ)) → length c ≤ n → longer n c ≡ []
 longer_none n [] le = refl
 longer_none zero (x ∷ c) le = absurd (omega (arith, le))
@@ -34,6 +35,7 @@ longer_step paths new n c path lt is e =
     let next : path ∷ longer (n + 1) c ≡ longer n c = rw (is, add-one) (sym (longer_more n c lt)) in
     ap (λ x. x ++ longer (n + 1) c) e ∙ (append_assoc paths (path ∷ []) (longer (n + 1) c) ∙ ap (λ x. paths ++ x) next)
 
+-- where no longer beginning is left, none is added
 pub longer_end : (paths : List (List (List ℕ))) (n : ℕ) (c : List (List ℕ)) → length c ≤ n → paths ≡ paths ++ longer n c
 longer_end paths n c le = sym (append-nil paths) ∙ ap (λ x. paths ++ x) (sym (longer_none n c le))
 
@@ -68,6 +70,7 @@ begins_more y q t c e b = record {
   whole = ap (λ p. y ∷ p) b.whole ∙ ap (λ p. p ++ b.rest) e;
 }
 
+-- each path that is made of a constant is a beginning of it
 pub beginning_of : (q c : List (List ℕ)) → In q (longer zero c) → Begins q c
 beginning_of q [] h = absurd h
 beginning_of q (y ∷ c) h = elim h [
@@ -231,6 +234,7 @@ reached spelled s name names rest h e =
 abbrev pub NotBehind : Spelled → Spelled → Type 0
 NotBehind s t = is_gt (path_order s.constant t.constant) ≡ false
 
+-- all paths behind a previous one come after it
 pub all_behind : (previous : List (List ℕ)) (spelled : List Spelled) →
     Each (λ s. is_gt (path_order previous s.constant) ≡ false) spelled → Rises NotBehind spelled →
     (q : List (List ℕ)) → In q (paths_from previous spelled) → path_order previous q ≡ Less
@@ -240,6 +244,7 @@ all_behind previous (s ∷ spelled) le rise q h = elim (step previous s spelled 
   | inr b ↦ upto_before previous s.constant q le.0 (all_behind s.constant spelled rise.0 rise.1 q b)
 ]
 
+-- the paths of rising constants rise
 pub paths_rise : (previous : List (List ℕ)) (spelled : List Spelled) → Rises NotBehind spelled →
     Rises IsBeforePath (paths_from previous spelled)
 paths_rise previous [] rise = tt
@@ -258,6 +263,7 @@ parent [] = []
 parent (name ∷ []) = []
 parent (name ∷ next ∷ names) = name ∷ parent (next ∷ names)
 
+-- each path is at most one level deeper than the one before it, and shares what is above
 abbrev pub Climbs : (previous : List (List ℕ)) → List (List (List ℕ)) → Type 0
 Climbs previous [] = Unit {0}
 Climbs previous (q ∷ paths) = (begins (parent q) previous ≡ true) × Climbs q paths
@@ -301,6 +307,7 @@ fresh_climb (x ∷ previous) (y ∷ c) le =
       | false ↦ λ e. (refl, climbs_under y [] (longer zero c) c (beginnings_climb c))
     ] refl
 
+-- the paths of rising constants climb by one level at most
 pub paths_climb : (previous : List (List ℕ)) (spelled : List Spelled) →
     Each (λ s. is_gt (path_order previous s.constant) ≡ false) spelled → Rises NotBehind spelled →
     Climbs previous (paths_from previous spelled)

@@ -22,6 +22,7 @@ use Rattle.tree_scan_sites.proofs.FileLaws.{NotAfter, spelling, constants_rise, 
 use Rattle.tree_scan_sites.proofs.FileLaws.{first_from_file}
 use Rattle.tree_scan_sites.proofs.ChildLaws.{begun, child_in, in_child, begun_rise, begun_by_length, begins_itself}
 
+-- rows have the paths that they are made of
 pub paths_of_rows-rows_of : (spelled : List Spelled) (paths : List (List (List ℕ))) →
     paths_of_rows (rows_of spelled paths) ≡ paths
 paths_of_rows-rows_of spelled [] = refl

@@ -26,6 +26,7 @@ one_named P c Namespace (File g) h k = absurd (h.1 g k.0)
 one_named P c Namespace (Explicit g) h k = absurd (h.1 g k.0)
 one_named P c Namespace Namespace h k = refl
 
+-- a constant has one site at most
 pub one_site : (P : List (List ℕ) → ℕ → ℕ → Type 0) (c : List (List ℕ)) (s t : Site) → IsSite P c s → IsSite P c t →
     s ≡ t
 one_site P [] s t h k = absurd h
@@ -35,6 +36,7 @@ one_site P (name ∷ names) s t h k = one_named P (name ∷ names) s t h k
 abbrev pub SameSpellings : (P Q : List (List ℕ) → ℕ → ℕ → Type 0) → Type 0
 SameSpellings P Q = (c : List (List ℕ)) (root file : ℕ) → P c root file ↔ Q c root file
 
+-- that the same is spelled holds both ways
 pub same_back : (P Q : List (List ℕ) → ℕ → ℕ → Type 0) → SameSpellings P Q → SameSpellings Q P
 same_back P Q same c root file = ((same c root file).1, (same c root file).0)
 
@@ -64,6 +66,7 @@ module _ (P Q : List (List ℕ) → ℕ → ℕ → Type 0) (same : SameSpelling
   pub same_child : (c : List (List ℕ)) (name : List ℕ) → IsChild P c name → IsChild Q c name
   same_child c name h = (h.0, same_site (c ++ name ∷ []) h.0 h.1)
 
+-- children follow from what is spelled
 pub same_children : (P Q : List (List ℕ) → ℕ → ℕ → Type 0) → SameSpellings P Q →
     (c : List (List ℕ)) (names : List (List ℕ)) → ListsChildren P c names → ListsChildren Q c names
 same_children P Q same c names h = record {

@@ -107,6 +107,7 @@ any_listed file files h = Contains-from_any {eq = nat_eq} (λ x y e. eqb-true x 
 listed_any : (file : ℕ) (files : List ℕ) → Contains files file → list_any (nat_eq file) files ≡ true
 listed_any file files h = list_any-from_Contains nat_eq_equiv file files h
 
+-- lists of the same files answer alike whether they have one
 pub same_answers : (files hidden : List ℕ) → ((file : ℕ) → Contains files file ↔ Contains hidden file) → (file : ℕ) →
     list_any (nat_eq file) files ≡ list_any (nat_eq file) hidden
 same_answers files hidden same file = same_tests (list_any (nat_eq file) files) (list_any (nat_eq file) hidden)

@@ -1,4 +1,4 @@
-use Rattle.std.proofs.Common.{◌≡◌, sym, subst}
+use Rattle.std.proofs.Common.{subst}
 use Rattle.outside.specs.Tree.{paths_of}
 use Rattle.tree_scan_roots.specs.Roots.{AreRoots, NamesOnce}
 use Rattle.tree_scan.specs.Sites.{AreSites}

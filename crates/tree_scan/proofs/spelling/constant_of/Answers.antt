@@ -1,9 +1,8 @@
-use Rattle.std.proofs.Common.{◌≡◌, ◌∙◌, refl}
 use Rattle.std.proofs.lemmas.Option.{slice_get_within}
 use Rattle.tree_scan_roots.specs.Above.{IsLongestAbove, NoneAbove}
 use Rattle.tree_scan_names.specs.Spellings.{above, behind, IsSpelling}
 use Rattle.tree_scan_names.specs.declared.spelling.Spelling.TheVariants.{Names, Nothing, BadName}
-use Rattle.tree_scan.proofs.RootLaws.{none_longest, inside_path, slash_there}
+use Rattle.tree_scan.proofs.RootLaws.{none_longest}
 use Rattle.tree_scan.proofs.SpellLaws.{end_of, nothing_told, bad_told, no_bad_name, constant_told, same_spelling}
 use Rattle.tree_scan.proofs.SpellLaws.{same_namespace}
 use Rattle.tree_scan.proofs.spelling.constant_of.Goals as goal

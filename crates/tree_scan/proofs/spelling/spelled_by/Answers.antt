@@ -1,10 +1,10 @@
-use Rattle.std.proofs.Common.{◌≡◌, ◌↔◌, ◌+◌, ◌++◌, ◌∷◌, [], ℕ, List, Some, None, slice_get, length, refl, sym, ap}
+use Rattle.std.proofs.Common.{◌≡◌, ◌↔◌, ℕ, List, Some, slice_get, length, refl}
 use Rattle.std.proofs.Common.{subst}
 use Rattle.std.proofs.lemmas.Option.{slice_get_read}
 use Rattle.std.proofs.lemmas.Result.{err_from_is_err_and}
 use Rattle.tree_scan.specs.Spells.{SpellsConstant}
 use Rattle.tree_scan.specs.Spelling.{SpelledBy}
-use Rattle.tree_scan.proofs.ListLaws.{ListsBefore, step_none, step_some, all_listed, named_step, first_fault}
+use Rattle.tree_scan.proofs.ListLaws.{step_none, step_some, all_listed, named_step, first_fault}
 use Rattle.tree_scan.proofs.ListLaws.{none_there}
 use Rattle.tree_scan.proofs.spelling.spelled_by.Goals.{in-Some+in_ok-add_spelled, in_default}
 use Rattle.tree_scan.proofs.spelling.spelled_by.Goals as goal
