@@ -56,10 +56,11 @@ module _ {T V E O R W N : Type 0} (r : Rules T V E O) (m : Runs T V E O R W N) (
     pub keyed : HasKeys m.key p.keys p.tasks p.phase
     pub at : IsAt r m.branch m.rest h.wanted h.at_first h.made h.table p.tasks p.waiting p.phase
 
-  -- What is left to do, were the phase this one; and what is left to do.
+  -- What is left to do, were the phase this one.
   abbrev pub left_in : Progress T R W N → Phase T R → ℕ
   left_in p phase = todo r m.branch m.rest h.table p.tasks p.waiting phase
 
+  -- What is left to do.
   abbrev pub left_to_do : Progress T R W N → ℕ
   left_to_do p = left_in p p.phase
 

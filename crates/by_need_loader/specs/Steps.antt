@@ -76,10 +76,11 @@ IsAt {T} {V} r branch rest wanted J made K ts ws Loaded = (v : V) × (known r wa
     × Load r J wanted made K true
 IsAt r branch rest wanted J made K ts ws Over = ⊥
 
--- How many questions a run asks over all that is known; and the most that a task's run asks, taken together.
+-- How many questions a run asks over all that is known.
 abbrev pub asks_left : {T V E O : Type 0} → Rules T V E O → Computation T V E O → ℕ
 asks_left r c = length (over (known r) c).asked
 
+-- How many the runs of all tasks ask, taken together.
 abbrev pub most_asks : {T V E O : Type 0} → Rules T V E O → ℕ
 most_asks r = total (λ t. length (r.run t (known r)).asked) r.tasks
 
