@@ -29,10 +29,11 @@ pub data Ending (V E O : Type 0) : Type 0 where
   Error : E → Ending V E O
   Other : O → Ending V E O
 
--- The tree of a task's run.
+-- The tree of a task's run. Of a task that asks for b and adds 1 it is `Ask b (λ v. Gives (Value (v + 1)))`.
 abbrev pub Computation : Type 0 → Type 0 → Type 0 → Type 0 → Type 0
 Computation T V E O = Asking T V (Ending V E O)
 
+-- The answer of a run that lacks nothing.
 abbrev pub answer_of : {T V E O : Type 0} → Ending V E O → Answer T V E O
 answer_of (Value v) = Done v
 answer_of (Error e) = Raised e

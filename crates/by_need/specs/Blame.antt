@@ -16,14 +16,16 @@ asked_by t (Raised e) = t
 asked_by t (Asks u) = u
 asked_by t (Otherwise o) = t
 
+-- Where one question leads, over all that is known.
 abbrev pub next : {T V E O : Type 0} → Rules T V E O → T → T
 next r t = asked_by t (r.run t (known r)).answer
 
--- Where n questions lead, and the n tasks on the way.
+-- Where n questions lead.
 abbrev pub follow : {T V E O : Type 0} → Rules T V E O → ℕ → T → T
 follow r zero t = t
 follow r (suc n) t = follow r n (next r t)
 
+-- The n tasks on that way, the first one included.
 abbrev pub walk : {T V E O : Type 0} → Rules T V E O → ℕ → T → List T
 walk r zero t = []
 walk r (suc n) t = t ∷ walk r n (next r t)
@@ -53,6 +55,7 @@ cause_at r t (Raised e) = Fault e
 cause_at r t (Asks u) = Circle (ring_of r t)
 cause_at r t (Otherwise o) = Ended o
 
+-- The same, by the task's run over all that is known.
 abbrev pub cause_of : {T V E O : Type 0} → Rules T V E O → T → Cause T E O
 cause_of r t = cause_at r t (r.run t (known r)).answer
 

@@ -37,6 +37,7 @@ pub record Loading {T V E O : Type 0} (r : Rules T V E O) (wanted : T) (K : T �
   pub fresh : K wanted ≡ None
   pub apart : Apart r (ts ++ t ∷ [])
 
+-- The sum over a list.
 abbrev pub total : {T : Type 0} → (T → ℕ) → List T → ℕ
 total f [] = 0
 total f (t ∷ ts) = f t + total f ts

@@ -44,14 +44,16 @@ rules_of bodies = rules_by eqb leb (below (length bodies)) (meaning bodies)
 abbrev pub questions_below : ℕ → List ℕ → Bool
 questions_below n ts = list_all (λ t. ltb t n) ts
 
+-- Each question of each body is below n.
 abbrev pub all_below : ℕ → List Body → Bool
 all_below n bodies = list_all (λ body. questions_below n body.questions.items) bodies
 
--- The value that a list of values has at a task.
+-- A value that may be missing twice over is missing once.
 abbrev pub inner : Option (Option ℕ) → Option ℕ
 inner None = None
 inner (Some value) = value
 
+-- The value that a list of values has at a task.
 abbrev pub value_at : List (Option ℕ) → ℕ → Option ℕ
 value_at values t = inner (slice_get values t)
 

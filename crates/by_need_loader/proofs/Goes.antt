@@ -7,7 +7,8 @@ use Rattle.std.specs.List.{list_any}
 use Rattle.std.proofs.lemmas.List.{map-append, length-map}
 use Rattle.by_need.specs.Asking.{Gives, Ask, Value, Error, Other, over}
 use Rattle.by_need.specs.Rounds.{Rules, Part, is_in, is_task, known}
-use Rattle.by_need.specs.Blame.{Circle}
+use Rattle.by_need.specs.Blame.{Fault, Circle, Ended, blame}
+use Rattle.by_need.specs.Order.{Load}
 use Rattle.by_need.specs.Laws.{Lawful}
 use Rattle.by_need.specs.Open.{AllTasks, Chain, first_or}
 use Rattle.by_need.proofs.Loads.{chain_tasks, chain_last_task}
@@ -15,14 +16,11 @@ use Rattle.indexmap.specs.IndexSet.{insert_key}
 use Rattle.by_need_loader.specs.Ring.{IsTurned}
 use Rattle.by_need_loader.specs.Runs.{Runs}
 use Rattle.by_need_loader.specs.Steps.{IsReady, Running}
-use Rattle.by_need_loader.specs.Progress.{Progress, History, IsOn, WaitsFor, Finds, WentOn, Says, left_in}
+use Rattle.by_need_loader.specs.Progress.{Progress, History, IsOn, WaitsFor, Finds, WentOn, Tells, left_in}
 use Rattle.by_need_loader.specs.Progress.{left_to_do, Resumed, begun, nothing_done}
 use Rattle.by_need_loader.specs.declared.loader.Phase.{Phase}
 use Rattle.by_need_loader.specs.declared.loader.Phase.TheVariants as phase
 use Rattle.by_need_loader.specs.declared.loader.LoadStep.TheVariants as step
-use Rattle.by_need_loader.specs.Failures.{cause}
-use Rattle.by_need_loader.specs.declared.loader.Failure.{Failure}
-use Rattle.by_need_loader.specs.declared.loader.Failure.TheVariants as failure
 use Rattle.by_need_loader.proofs.Keys.{insert_key-new, insert_key-present, any_key, same_at}
 use Rattle.by_need_loader.proofs.Opens.{chain_of}
 use Rattle.by_need_loader.proofs.Told.{resumes_none, resumes_some, entered, tells_ring, tells_raised, tells_otherwise}
@@ -57,13 +55,13 @@ module _ {T V E O R W N : Type 0} (r : Rules T V E O) (m : Runs T V E O R W N) (
   -- a look is told
   pub looked : (p : Progress T R W N) (u told : T) (bound : ℕ) → WaitsFor r m h p u → told ≡ u →
       left_in r m h p (phase.Looks u) < bound →
-      Says r m h bound (record { tasks = p.tasks; waiting = p.waiting; keys = p.keys; phase = phase.Looks u })
+      Tells r m h bound (record { tasks = p.tasks; waiting = p.waiting; keys = p.keys; phase = phase.Looks u })
       (step.Look told)
   looked p u told bound w same lt =
-      subst (λ x. Says r m h bound
+      subst (λ x. Tells r m h bound
       (record { tasks = p.tasks; waiting = p.waiting; keys = p.keys; phase = phase.Looks u })
       (step.Look x)) (sym same)
-      (record { keyed = w.keyed; tells = (refl, (w.opened, w.before), lt) })
+      (refl, record { keyed = w.keyed; at = (w.opened, w.before) }, lt)
 
   module _ (p : Progress T R W N) (u : T) (w : WaitsFor r m h p u) (none : h.table u ≡ None) where
     asks_chain : Chain r h.table p.tasks u
@@ -140,33 +138,27 @@ module _ {T V E O R W N : Type 0} (r : Rules T V E O) (m : Runs T V E O R W N) (
           so false e = absurd cc
 
       -- the ring that is closed is told
-      pub says_ring : (q : Progress T R W N) (bound place : ℕ) (told : Failure T E O) (ring : List T) → Stands place →
-          cause told ≡ Circle ring →
+      pub says_ring : (place : ℕ) (ring : List T) → Stands place →
           (place < length p.tasks → AllTasks r p.tasks → IsTurned r.at_most (drop place p.tasks) ring) →
-          Says r m h bound q (step.Failed told)
-      says_ring q bound place told ring s named turned =
-          let x = tells_ring r m.branch m.rest laws h.wanted h.at_first h.made h.table p.tasks p.waiting u w.opened
-          w.before none place ring s.within s.there (turned s.within open_tasks) in
-          record { keyed = tt; tells = (x.0, x.1 ∙ sym named, x.2) }
+          (known r h.wanted ≡ None) × (blame r h.wanted ≡ Circle ring) × Load r h.at_first h.wanted h.made h.table false
+      says_ring place ring s turned =
+          tells_ring r m.branch m.rest laws h.wanted h.at_first h.made h.table p.tasks p.waiting u w.opened w.before
+          none place ring s.within s.there (turned s.within open_tasks)
 
   -- what a run comes to
   module _ (p : Progress T R W N) (t : T) (run : R) (keyed : p.keys ≡ map m.key (p.tasks ++ t ∷ []))
       (g : Running r m.branch m.rest h.wanted h.at_first h.made h.table p.tasks p.waiting t run) where
     -- an error is told
-    pub says_raised : (q : Progress T R W N) (bound : ℕ) (e : E) → m.rest run ≡ Gives (Error e) →
-        Says r m h bound q (step.Failed (failure.Raised e))
-    says_raised q bound e is = record {
-      keyed = tt;
-      tells = tells_raised r m.branch m.rest laws h.wanted h.at_first h.made h.table p.tasks p.waiting t run g e is;
-    }
+    pub says_raised : (e : E) → m.rest run ≡ Gives (Error e) → (known r h.wanted ≡ None)
+        × (blame r h.wanted ≡ Fault e) × Load r h.at_first h.wanted h.made h.table false
+    says_raised e is =
+        tells_raised r m.branch m.rest laws h.wanted h.at_first h.made h.table p.tasks p.waiting t run g e is
 
     -- an end of another kind is told
-    pub says_otherwise : (q : Progress T R W N) (bound : ℕ) (o : O) → m.rest run ≡ Gives (Other o) →
-        Says r m h bound q (step.Failed (failure.Otherwise o))
-    says_otherwise q bound o is = record {
-      keyed = tt;
-      tells = tells_otherwise r m.branch m.rest laws h.wanted h.at_first h.made h.table p.tasks p.waiting t run g o is;
-    }
+    pub says_otherwise : (o : O) → m.rest run ≡ Gives (Other o) → (known r h.wanted ≡ None)
+        × (blame r h.wanted ≡ Ended o) × Load r h.at_first h.wanted h.made h.table false
+    says_otherwise o is =
+        tells_otherwise r m.branch m.rest laws h.wanted h.at_first h.made h.table p.tasks p.waiting t run g o is
 
     -- the keys without that of the run that is done
     pub keys_left : (ks : List N) (n : ℕ) → n ≡ length p.tasks → ks ≡ take n p.keys → ks ≡ map m.key p.tasks
@@ -180,23 +172,21 @@ module _ {T V E O R W N : Type 0} (r : Rules T V E O) (m : Runs T V E O R W N) (
         (ks : List N) (left : ks ≡ map m.key p.tasks) where
       -- the value of the wanted task is told
       pub says_last : p.tasks ≡ [] →
-          Says r m h bound (record { tasks = p.tasks; waiting = p.waiting; keys = ks; phase = phase.Loaded })
+          Tells r m h bound (record { tasks = p.tasks; waiting = p.waiting; keys = ks; phase = phase.Loaded })
           (step.Define t v)
-      says_last none = record {
-        keyed = left;
-        tells = tells_last r m.branch m.rest laws h.wanted h.at_first h.made h.table p.tasks p.waiting t run g v bound
-            is le none;
-      }
+      says_last none =
+          let x = tells_last r m.branch m.rest laws h.wanted h.at_first h.made h.table p.tasks p.waiting t run g v
+          bound is le none in
+          (x.0, x.1, x.2, x.3, λ L d. let y = x.4 L d in (record { keyed = left; at = y.0 }, y.1))
 
       -- the value of a task that others wait for is told
       pub says_next : (u : T) → u ≡ t → (p.tasks ≡ [] → ⊥) →
-          Says r m h bound (record { tasks = p.tasks; waiting = p.waiting; keys = ks; phase = phase.Asked u })
+          Tells r m h bound (record { tasks = p.tasks; waiting = p.waiting; keys = ks; phase = phase.Asked u })
           (step.Define t v)
-      says_next u same some = record {
-        keyed = left;
-        tells = tells_next r m.branch m.rest laws h.wanted h.at_first h.made h.table p.tasks p.waiting t run g v bound
-            is le u same some;
-      }
+      says_next u same some =
+          let x = tells_next r m.branch m.rest laws h.wanted h.at_first h.made h.table p.tasks p.waiting t run g v
+          bound is le u same some in
+          (x.0, x.1, x.2, x.3, λ L d. let y = x.4 L d in (record { keyed = left; at = y.0 }, y.1))
 
     -- the run waits for another task
     pub asked : (u : T) (w : W) (ts : List T) (ws : List W) (next : Phase T R) → m.rest run ≡ Ask u (m.branch w) →
@@ -263,8 +253,8 @@ module _ {T V E O R W N : Type 0} (r : Rules T V E O) (m : Runs T V E O R W N) (
 
     -- a task runs
     -- the wanted task is loaded
-    pub step_loaded : (bound : ℕ) → p.phase ≡ phase.Loaded → Says r m h bound (in_phase p next) step.Done
-    step_loaded bound e = record { keyed = tt; tells = rw e at on.at }
+    pub step_loaded : (bound : ℕ) → p.phase ≡ phase.Loaded → Tells r m h bound (in_phase p next) step.Done
+    step_loaded bound e = rw e at on.at
 
   -- a task runs
   pub step_runs : (p : Progress T R W N) → IsOn r m h p → (t : T) (run : R) → p.phase ≡ phase.Runs t run →

@@ -1,4 +1,4 @@
--- The least name of a ring.
+-- The least task of a ring.
 use Rattle.std.proofs.Common.{◌≡◌, ◌<◌, ◌≤◌, ◌+◌, ◌∷◌, [], ℕ, suc, zero, List, length, slice_get, get_or, Option, Some}
 use Rattle.std.proofs.Common.{drop, take}
 use Rattle.std.proofs.Common.{Bool, true, false, inl, inr, sym, ap, ◌∙◌, subst, arith}
@@ -12,7 +12,7 @@ use Rattle.by_need.specs.Rounds.{Rules, is_task}
 use Rattle.by_need.specs.Laws.{Lawful}
 use Rattle.by_need_loader.specs.Ring.{HasLeast}
 
--- no name before n is less than the one at the place
+-- no task before n is less than the one at the place
 abbrev pub LeastBelow : {T : Type 0} → (T → T → Bool) → List T → ℕ → ℕ → Type 0
 LeastBelow {T} at_most ts place n = (m z : T) (k : ℕ) → k < n → slice_get ts place ≡ Some m →
     slice_get ts k ≡ Some z → at_most m z ≡ true

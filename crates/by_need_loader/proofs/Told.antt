@@ -3,7 +3,7 @@ use Rattle.std.proofs.Common.{◌≡◌, ℕ, zero, suc, ◌+◌, ◌*◌, ◌-�
 use Rattle.std.proofs.Common.{None, Bool, true, false, ◌⊎◌, inl, inr, refl, sym, ap, ◌∙◌, subst, arith, reverse, drop}
 use Rattle.std.proofs.Common.{le_of_eq, slice_get}
 use Rattle.by_need.specs.Asking.{Computation, Asks, Gives, Ask, Value, Error, Other, over}
-use Rattle.by_need.specs.Rounds.{Rules, is_in, is_task, known}
+use Rattle.by_need.specs.Rounds.{Rules, Needs, is_in, is_task, known}
 use Rattle.by_need.specs.Blame.{Fault, Circle, Ended, blame}
 use Rattle.by_need.specs.Laws.{Lawful}
 use Rattle.by_need.specs.Load.{Defines}
@@ -21,11 +21,11 @@ use Rattle.by_need_loader.proofs.History.{goes_back, there}
 use Rattle.by_need_loader.proofs.Progress.{waits_some, waits_push, few_asks, waits_few, less_defined, less_entered}
 use Rattle.std.proofs.lemmas.Option.{slice_get-get_or}
 use Rattle.by_need_loader.specs.Ring.{IsTurned}
-use Rattle.by_need_loader.specs.Steps.{Behind, Opened, SoFar, Before, Running, IsAt, Tells, todo, asks_left, waits_left}
+use Rattle.by_need_loader.specs.Steps.{Behind, Opened, SoFar, Before, Running, IsAt, IsReady, todo, asks_left}
+use Rattle.by_need_loader.specs.Steps.{waits_left}
 use Rattle.by_need_loader.specs.Steps.{wide}
 use Rattle.by_need_loader.specs.declared.loader.Phase.{Phase}
 use Rattle.by_need_loader.specs.declared.loader.Phase.TheVariants.{Asked, Looks, Lacks, Runs, Loaded}
-use Rattle.by_need_loader.specs.declared.loader.LoadStep.TheVariants as step
 
 unsnoc_on : {T : Type 0} (t : T) (ts : List T) → (ts ≡ []) ⊎ ((front : List T) × (s : T) × (ts ≡ front ++ s ∷ [])) →
     (front : List T) × (s : T) × (t ∷ ts ≡ front ++ s ∷ [])
@@ -66,6 +66,12 @@ module _ {T V E O R W : Type 0} (r : Rules T V E O) (branch : W → V → Comput
       (or_from (r.same u x) false p.0 refl))
 
   module _ (wanted : T) (J : T → Option V) (made : List (T × V)) (K : T → Option V) (ts : List T) (ws : List W) where
+    -- the value of t is told, and the load goes on in this phase
+    abbrev pub Defining : T → V → ℕ → Phase T R → Type 0
+    Defining t v bound phase = IsReady phase × (K t ≡ None) × (known r t ≡ Some v) × Needs r wanted t
+        × ((L : T → Option V) → Defines r K t v L → IsAt r branch rest wanted J (made ++ (t, v) ∷ []) L ts ws phase
+        × (todo r branch rest L ts ws phase < bound))
+
     module _ (t : T) (m : R) (g : Running r branch rest wanted J made K ts ws t m) where
       answers : (c : Computation T V E O) → rest m ≡ c → (r.run t K).answer ≡ (over K c).answer
       answers c e = g.now.same K (Part-refl K) ∙ ap (λ x. (over K x).answer) e
@@ -101,7 +107,7 @@ module _ {T V E O R W : Type 0} (r : Rules T V E O) (branch : W → V → Comput
         value_known = done_known r laws t K v g.opened.part runs_task (answers (Gives (Value v)) e)
 
         -- the value of the wanted task is known
-        pub tells_last : ts ≡ [] → Tells r branch rest wanted J made K ts ws Loaded bound (step.Define t v)
+        pub tells_last : ts ≡ [] → Defining t v bound Loaded
         tells_last none =
             let is : t ≡ wanted = ap (first_or t) (sym none) ∙ g.opened.start in (
               tt,
@@ -112,8 +118,7 @@ module _ {T V E O R W : Type 0} (r : Rules T V E O) (branch : W → V → Comput
                 (
                   v,
                   ap (known r) (sym is) ∙ value_known,
-                  ap L (sym is)
-                      ∙ d.new,
+                  ap L (sym is) ∙ d.new,
                   ends r J wanted t K L made v g.begun
                       (subst (λ os. SoFar r J wanted (reverse os) t K made) none g.so_far)
                       (answers (Gives (Value v)) e) d,
@@ -123,10 +128,9 @@ module _ {T V E O R W : Type 0} (r : Rules T V E O) (branch : W → V → Comput
             )
 
         -- the value of a task that others wait for is known
-        pub tells_next : (u : T) → u ≡ t → (ts ≡ [] → ⊥) →
-            Tells r branch rest wanted J made K ts ws (Asked u) bound (step.Define t v)
+        pub tells_next : (u : T) → u ≡ t → (ts ≡ [] → ⊥) → Defining t v bound (Asked u)
         tells_next u same some =
-            subst (λ x. Tells r branch rest wanted J made K ts ws (Asked x) bound (step.Define t v)) (sym same) (
+            subst (λ x. Defining t v bound (Asked x)) (sym same) (
               tt,
               g.lacks,
               value_known,

@@ -1,17 +1,12 @@
--- What a loader has before each of its steps, what each step tells, and how much is left to do.
-use Rattle.std.specs.Prelude.{◌≡◌, ◌≤◌, ◌<◌, ◌+◌, ◌*◌, ◌-◌, length, ℕ, List, [], ◌∷◌, ◌++◌, Option, Some, None, Bool}
+-- What a loader has before each of its steps, and how much is left to do.
+use Rattle.std.specs.Prelude.{◌≡◌, ◌≤◌, ◌+◌, ◌*◌, ◌-◌, length, ℕ, List, [], ◌∷◌, ◌++◌, Option, Some, None, Bool}
 use Rattle.std.specs.Prelude.{true, false, reverse}
 use Rattle.by_need.specs.Asking.{Computation, Ask, over}
-use Rattle.by_need.specs.Rounds.{Rules, Part, Needs, is_in, is_task, known}
-use Rattle.by_need.specs.Blame.{blame}
-use Rattle.by_need.specs.Load.{Defines}
+use Rattle.by_need.specs.Rounds.{Rules, Part, is_in, is_task, known}
 use Rattle.by_need.specs.Order.{Load, Loads}
 use Rattle.by_need.specs.Open.{NoneKnown, Apart, first_or, left, total}
-use Rattle.by_need_loader.specs.Failures.{cause}
 use Rattle.by_need_loader.specs.declared.loader.Phase.{Phase}
 use Rattle.by_need_loader.specs.declared.loader.Phase.TheVariants.{Asked, Looks, Lacks, Runs, Loaded, Over}
-use Rattle.by_need_loader.specs.declared.loader.LoadStep.{LoadStep}
-use Rattle.by_need_loader.specs.declared.loader.LoadStep.TheVariants.{Look, Define, Done, Failed}
 
 -- Over each table that K is part of, what is left of the run of t ends as the run does.
 pub record Behind {T V E O : Type 0} (r : Rules T V E O) (K : T → Option V) (t : T) (c : Computation T V E O) : Type
@@ -81,10 +76,11 @@ IsAt {T} {V} r branch rest wanted J made K ts ws Loaded = (v : V) × (known r wa
     × Load r J wanted made K true
 IsAt r branch rest wanted J made K ts ws Over = ⊥
 
--- How many questions a run asks over all that is known; and the most that a task's run asks, taken together.
+-- How many questions a run asks over all that is known.
 abbrev pub asks_left : {T V E O : Type 0} → Rules T V E O → Computation T V E O → ℕ
 asks_left r c = length (over (known r) c).asked
 
+-- How many the runs of all tasks ask, taken together.
 abbrev pub most_asks : {T V E O : Type 0} → Rules T V E O → ℕ
 most_asks r = total (λ t. length (r.run t (known r)).asked) r.tasks
 
@@ -116,21 +112,3 @@ IsReady (Lacks u) = Unit {0}
 IsReady (Runs t m) = Unit {0}
 IsReady Loaded = Unit {0}
 IsReady Over = ⊥
-
--- What a step tells, and that it leaves less to do than the bound. Look: the table is asked for a task. Define: a task
--- that the wanted one needs, and that the table lacks, is known; the loader goes on over any table with it. Done: the
--- wanted task is known and in the table. Failed: it stays unknown, and this is its blame. At both ends the values were
--- defined in a load's order.
-abbrev pub Tells : {T V E O R W : Type 0} → Rules T V E O → (W → V → Computation T V E O) →
-    (R → Computation T V E O) → T → (T → Option V) → List (T × V) → (T → Option V) → List T → List W → Phase T R →
-    ℕ → LoadStep T V E O → Type 0
-Tells r branch rest wanted J made K ts ws phase bound (Look u) = (phase ≡ Looks u)
-    × IsAt r branch rest wanted J made K ts ws phase × (todo r branch rest K ts ws phase < bound)
-Tells {T} {V} r branch rest wanted J made K ts ws phase bound (Define u v) =
-    IsReady phase × (K u ≡ None) × (known r u ≡ Some v) × Needs r wanted u
-    × ((L : T → Option V) → Defines r K u v L → IsAt r branch rest wanted J (made ++ (u, v) ∷ []) L ts ws phase
-    × (todo r branch rest L ts ws phase < bound))
-Tells {T} {V} r branch rest wanted J made K ts ws phase bound Done = (v : V) × (known r wanted ≡ Some v)
-    × (K wanted ≡ Some v) × Load r J wanted made K true
-Tells r branch rest wanted J made K ts ws phase bound (Failed failure) = (known r wanted ≡ None)
-    × (blame r wanted ≡ cause failure) × Load r J wanted made K false

@@ -1,7 +1,7 @@
 //! A load of a task, step by step. Its caller has the table.
 ghost use Rattle.std.specs.Prelude.{◌≡◌, ◌≤◌, ◌<◌, ℕ, IfOk, Some, None, option_copied};
 ghost use Rattle.by_need_loader.specs.Steps.{IsReady};
-ghost use Rattle.by_need_loader.specs.Progress.{History, IsOn, Finds, WentOn, Says, WaitsFor, HasRunning, Resumed};
+ghost use Rattle.by_need_loader.specs.Progress.{History, IsOn, Finds, WentOn, Tells, WaitsFor, HasRunning, Resumed};
 ghost use Rattle.by_need_loader.specs.Progress.{begun, left_in, left_to_do};
 
 use crate::program::{Next, Program};
@@ -114,7 +114,7 @@ impl<Y: Program> Loader<Y> {
     ) -> Result<LoadStep<Y::Task, Y::Value, Y::Error, Y::Other>, AllocError>
         ensures { let r = Y.rules theory.now in let m = Y.runs theory.now in
             IfOk result (λ told. (h : History Y.Task Y.Value) → IsReady self.old.phase → IsOn r m h self.old →
-            Says r m h (left_to_do r m h self.old) self.new told) }
+            Tells r m h (left_to_do r m h self.old) self.new told) }
     {
         match mem::replace(&mut self.phase, Phase::Over) {
             Phase::Asked(task) => self.look(task),
@@ -155,7 +155,7 @@ impl<Y: Program> Loader<Y> {
         ensures { IfOk result (λ told. (s : Y) (h : History Y.Task Y.Value) (bound : ℕ) →
             WaitsFor (Y.rules s) (Y.runs s) h self.old task →
             left_in (Y.rules s) (Y.runs s) h self.old (Phase.Looks task) < bound →
-            Says (Y.rules s) (Y.runs s) h bound self.new told) }
+            Tells (Y.rules s) (Y.runs s) h bound self.new told) }
     {
         let told = Y::copy_task(&task)?;
         set_phase(&mut self.phase, Phase::Looks(task));
@@ -171,7 +171,7 @@ impl<Y: Program> Loader<Y> {
         ensures { let r = Y.rules theory.now in let m = Y.runs theory.now in
             IfOk result (λ told. (h : History Y.Task Y.Value) (bound : ℕ) → WaitsFor r m h self.old task →
             h.table task ≡ None → left_in r m h self.old (Phase.Lacks task) ≤ bound →
-            Says r m h bound self.new told) }
+            Tells r m h bound self.new told) }
     {
         let key = theory.key_of(&task)?;
         match self.keys.insert_full(key) {
@@ -197,7 +197,7 @@ impl<Y: Program> Loader<Y> {
     ) -> Result<LoadStep<Y::Task, Y::Value, Y::Error, Y::Other>, AllocError>
         ensures { let r = Y.rules theory.now in let m = Y.runs theory.now in
             IfOk result (λ told. (h : History Y.Task Y.Value) (bound : ℕ) → HasRunning r m h self.old task running →
-            left_in r m h self.old (Phase.Runs task running) ≤ bound → Says r m h bound self.new told) }
+            left_in r m h self.old (Phase.Runs task running) ≤ bound → Tells r m h bound self.new told) }
     {
         match theory.run(running)? {
             Next::Done(value) => {

@@ -1,4 +1,4 @@
-//! Tests of the loader beside the rounds, on small graphs of tasks.
+//! Tests of the loader beside the rounds, on small graphs of tasks, and of loads that nest deep.
 #![tactic(auto)]
 
 #[cfg(test)]

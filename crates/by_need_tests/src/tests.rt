@@ -1,8 +1,9 @@
 //! Loads beside the rounds, from every part of what is known as table: all graphs of up to three tasks with up to two
 //! questions each, where each task ends by a value, an error or an end of the other kind. And loads that nest deep.
 use by_need_graph::rounds::Answer;
-use by_need_graph::{Body, Ending, Graph, Values};
-use by_need_graph::{known_values, load_alone, load_beside_rounds, run_task};
+use by_need_graph::{
+    Body, Ending, Graph, Values, known_values, load_alone, load_beside_rounds, run_task,
+};
 use by_need_loader::{Failure, Loaded};
 use std::alloc::{AllocError, Global};
 use std::test::Fail;

@@ -29,9 +29,9 @@ steps-smaller-in-Look g c =
     } in
     let s = rw c.in-Look.is at (c.in_ok-asked.ensures h c.steps.invariant.ready c.steps.invariant.at.on) in
     let a = c.in_ok-answer-in-Look.ensures c.args.theory.now h
-    (record { task = c.in-Look.asked; looks = s.tells.0; is = c.defined.ensures })
-    (record { keyed = s.keyed; at = s.tells.1 }) in
-    lt_trans a.less s.tells.2
+    (record { task = c.in-Look.asked; looks = s.0; is = c.defined.ensures })
+    s.1 in
+    lt_trans a.less s.2
 
 pub steps-preserved-in-Look : goal.steps-preserved-in-Look
 steps-preserved-in-Look g c =
@@ -43,8 +43,8 @@ steps-preserved-in-Look g c =
     } in
     let s = rw c.in-Look.is at (c.in_ok-asked.ensures h c.steps.invariant.ready c.steps.invariant.at.on) in
     let a = c.in_ok-answer-in-Look.ensures c.args.theory.now h
-    (record { task = c.in-Look.asked; looks = s.tells.0; is = c.defined.ensures })
-    (record { keyed = s.keyed; at = s.tells.1 }) in
+    (record { task = c.in-Look.asked; looks = s.0; is = c.defined.ensures })
+    s.1 in
     record {
       ready = a.ready;
       at = record { made = h.made; on = a.on };
@@ -61,7 +61,7 @@ define-requires g c =
       table = g.B.Table.at c.steps.table;
     } in
     let s = rw c.in-Define.is at (c.in_ok-asked.ensures h c.steps.invariant.ready c.steps.invariant.at.on) in
-    s.tells.1
+    s.1
 
 pub steps-smaller : goal.steps-smaller
 steps-smaller g c =
@@ -76,8 +76,8 @@ steps-smaller g c =
     let laws = g.Y.Theory.laws c.args.theory.now in
     let L = g.B.Table.at c.define.new.self in
     let e = c.in_ok-define-in-Define.ensures in
-    let x = s.tells.4 L (defines r laws c.args.task h.at_first h.table L c.in-Define.done c.in-Define.value s.tells.1
-    s.tells.2 s.tells.3 e.new e.old) in
+    let x = s.4 L (defines r laws c.args.task h.at_first h.table L c.in-Define.done c.in-Define.value s.1
+    s.2 s.3 e.new e.old) in
     x.1
 
 pub steps-preserved : goal.steps-preserved
@@ -93,18 +93,18 @@ steps-preserved g c =
     let laws = g.Y.Theory.laws c.args.theory.now in
     let L = g.B.Table.at c.define.new.self in
     let e = c.in_ok-define-in-Define.ensures in
-    let x = s.tells.4 L (defines r laws c.args.task h.at_first h.table L c.in-Define.done c.in-Define.value s.tells.1
-    s.tells.2 s.tells.3 e.new e.old) in
+    let x = s.4 L (defines r laws c.args.task h.at_first h.table L c.in-Define.done c.in-Define.value s.1
+    s.2 s.3 e.new e.old) in
     record {
-      ready = s.tells.0;
+      ready = s.0;
       at = record {
         made = h.made ++ (c.in-Define.done, c.in-Define.value) ∷ [];
-        on = record { keyed = s.keyed; at = x.0 };
+        on = x.0;
       };
-      part = defined_part r laws c.args.task h.at_first h.table L c.in-Define.done c.in-Define.value s.tells.1
-          s.tells.2 s.tells.3 e.new e.old c.steps.invariant.part;
-      gains = defined_gains r laws c.args.task h.at_first h.table L c.in-Define.done c.in-Define.value s.tells.1
-          s.tells.2 s.tells.3 e.new e.old c.steps.invariant.gains;
+      part = defined_part r laws c.args.task h.at_first h.table L c.in-Define.done c.in-Define.value s.1
+          s.2 s.3 e.new e.old c.steps.invariant.part;
+      gains = defined_gains r laws c.args.task h.at_first h.table L c.in-Define.done c.in-Define.value s.1
+          s.2 s.3 e.new e.old c.steps.invariant.gains;
     }
 
 pub returns-in-Done-clause-ends : goal.returns-in-Done-clause-ends
@@ -116,7 +116,7 @@ returns-in-Done-clause-ends g c =
       table = g.B.Table.at c.steps.table;
     } in
     let s = rw c.in-Done.is at (c.in_ok-asked.ensures h c.steps.invariant.ready c.steps.invariant.at.on) in
-    (s.tells.0, s.tells.1, s.tells.2)
+    (s.0, s.1, s.2)
 
 pub returns-in-Done-clause-order : goal.returns-in-Done-clause-order
 returns-in-Done-clause-order g c =
@@ -127,7 +127,7 @@ returns-in-Done-clause-order g c =
       table = g.B.Table.at c.steps.table;
     } in
     let s = rw c.in-Done.is at (c.in_ok-asked.ensures h c.steps.invariant.ready c.steps.invariant.at.on) in
-    (h.made, s.tells.3)
+    (h.made, s.3)
 
 pub returns-in-Failed-clause-ends : goal.returns-in-Failed-clause-ends
 returns-in-Failed-clause-ends g c =
@@ -138,7 +138,7 @@ returns-in-Failed-clause-ends g c =
       table = g.B.Table.at c.steps.table;
     } in
     let s = rw c.in-Failed.is at (c.in_ok-asked.ensures h c.steps.invariant.ready c.steps.invariant.at.on) in
-    (s.tells.0, s.tells.1)
+    (s.0, s.1)
 
 pub returns-in-Failed-clause-order : goal.returns-in-Failed-clause-order
 returns-in-Failed-clause-order g c =
@@ -149,4 +149,4 @@ returns-in-Failed-clause-order g c =
       table = g.B.Table.at c.steps.table;
     } in
     let s = rw c.in-Failed.is at (c.in_ok-asked.ensures h c.steps.invariant.ready c.steps.invariant.at.on) in
-    (h.made, s.tells.2)
+    (h.made, s.2)

@@ -1,4 +1,4 @@
-use Rattle.std.proofs.Common.{sym, ap, ◌∙◌, refl}
+use Rattle.std.proofs.Common.{sym, ap, ◌∙◌}
 use Rattle.by_need.specs.Asking.{over}
 use Rattle.std.proofs.lemmas.Result.{IfOk-weaker}
 use Rattle.by_need_loader.proofs.Goes.{enters, stands, says_ring}
@@ -34,6 +34,5 @@ returns-in-Ok-default-false g c =
     c.in_ok-key.ensures _ c.in-Ok-default-false.place old.stored.0
     (sym c.in-Ok-default-false.field-0-1-test ∙ old.added) old.keys old.within old.stored.1 old.stored.2 in
     says_ring r m laws h _ c.args.task w none g.Y.Key.PartialEq.eq (g.met.Y.Program.tells_apart c.args.theory.now)
-    c.in_ok-key.key
-    c.in_ok-key.ensures _ bound c.in-Ok-default-false.place _ c.ring_from.result.items s refl
+    c.in_ok-key.key c.in_ok-key.ensures c.in-Ok-default-false.place c.ring_from.result.items s
     (rw c.replace-tasks.ensures.value at c.ring_from.ensures))

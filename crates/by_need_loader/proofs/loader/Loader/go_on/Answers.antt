@@ -8,13 +8,13 @@ use Rattle.by_need_loader.proofs.loader.Loader.go_on.Goals as goal
 pub returns-in-Raised : goal.returns-in-Raised
 returns-in-Raised g c =
     λ h bound now le. says_raised (g.Y.Theory.rules c.args.theory.now) (g.Y.Program.runs c.args.theory.now)
-    (g.Y.Theory.laws c.args.theory.now) h c.args.self.now c.args.task c.args.running now.keyed now.running _ bound
+    (g.Y.Theory.laws c.args.theory.now) h c.args.self.now c.args.task c.args.running now.keyed now.running
     c.in-Raised.error (rw c.in-Raised.is at c.in_ok-value.ensures)
 
 pub returns-in-Otherwise : goal.returns-in-Otherwise
 returns-in-Otherwise g c =
     λ h bound now le. says_otherwise (g.Y.Theory.rules c.args.theory.now) (g.Y.Program.runs c.args.theory.now)
-    (g.Y.Theory.laws c.args.theory.now) h c.args.self.now c.args.task c.args.running now.keyed now.running _ bound
+    (g.Y.Theory.laws c.args.theory.now) h c.args.self.now c.args.task c.args.running now.keyed now.running
     c.in-Otherwise.end (rw c.in-Otherwise.is at c.in_ok-value.ensures)
 
 pub returns-then-is_empty : goal.returns-then-is_empty
