@@ -1,2 +1,3 @@
+pub mod CharacterLaws
 mod Joins
 pub mod RowLaws

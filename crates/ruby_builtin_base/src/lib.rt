@@ -11,13 +11,17 @@ mod answer;
 mod arguments;
 mod call;
 mod called;
+mod characters;
 mod errors;
 mod lengths;
 mod printing;
+mod results;
 
 pub use arguments::wrong_count_text;
 pub use call::Call;
 pub use called::Called;
+pub use characters::{character_count, is_inner};
 pub use errors::{class_name, error_text};
 pub use lengths::{inspect_len, to_s_len};
 pub use printing::{inspect, push_inspect, push_to_s, to_s};
+pub use results::counted;

@@ -8,7 +8,8 @@ use Rattle.ruby_types.specs.declared.request.ErrorClass.TheVariants as class
 use Rattle.ruby_types.specs.declared.value.Value.TheVariants.{Int, Array}
 use Rattle.ruby_builtin_base.specs.Answers.{Answer, Gives, Raises}
 use Rattle.ruby_builtin_base.specs.Arguments.{takes_none, takes_int, takes_two_ints}
-use Rattle.ruby_builtin_numbers.specs.Numbers.{fitted, whole, integer, truth, floor_div, floor_rem}
+use Rattle.ruby_builtin_base.specs.Results.{fitted, whole, integer, truth}
+use Rattle.ruby_builtin_numbers.specs.Division.{floor_div, floor_rem}
 
 -- what is done with a divisor, which isn't 0
 abbrev pub divided : ℤ → Answer → Answer

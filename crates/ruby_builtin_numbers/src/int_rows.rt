@@ -3,8 +3,7 @@ ghost use Rattle.ruby_builtin_base.specs.Answers.{OrMemory, Says, Gives, IsRead,
 ghost use Rattle.ruby_types.specs.declared.value.Value.TheVariants.{Array, Int};
 ghost use Rattle.case_table.specs.Rows.{Rising};
 ghost use Rattle.ruby_builtin_base.specs.Rows.{row_of, row_at, numbered};
-ghost use Rattle.ruby_builtin_numbers.specs.Numbers as spec;
-ghost use Rattle.ruby_builtin_numbers.specs.IntRows as spec_of;
+ghost use Rattle.ruby_builtin_numbers.specs.IntRows as spec;
 ghost use Rattle.ruby_builtin_numbers.specs.IntRows.{int_rows, takes_divisor};
 
 use crate::whole::{difference, floor_div, floor_rem, magnitude, negated, product, sum};
@@ -155,22 +154,6 @@ fn place(name: &[u8]) -> Option<u16>
     int_table().find(name)
 }
 
-/// The number, or that it isn't one of 64 bits.
-fn integer(call: &Call, n: Option<i64>) -> Called
-    ensures { OrMemory result (answered call.now (spec.whole n)) }
-{
-    match n {
-        Some(n) => call.gives(Value::Int(n)),
-        None => call.raises(ErrorClass::Range, b"integer out of range"),
-    }
-}
-
-fn truth(call: &Call, holds: bool) -> Called
-    ensures { result ≡ answered call.now (spec.truth holds) }
-{
-    call.gives(if holds { Value::True } else { Value::False })
-}
-
 /// The one argument that is a number and not 0, or the answer to others.
 fn divisor(call: &Call) -> Result<i64, Called>
     ensures read { MatchResult result (IsRead takes_divisor call.now) (IsRefused takes_divisor call.now) }
@@ -185,7 +168,7 @@ fn divisor(call: &Call) -> Result<i64, Called>
 
 /// The quotient and what is left.
 fn both(call: &Call, quotient: Option<i64>, rest: Option<i64>) -> Called
-    ensures { OrMemory result (answered call.now (spec_of.both quotient rest)) }
+    ensures { OrMemory result (answered call.now (spec.both quotient rest)) }
 {
     match (quotient, rest) {
         (Some(quotient), Some(rest)) => pair(call, quotient, rest),
@@ -216,7 +199,7 @@ fn items_of(alloc: Global, first: i64, second: i64) -> Result<Items, AllocError>
 
 /// The number where it lies between two bounds, else the bound that it passed.
 fn clamped(call: &Call, n: i64, low: i64, high: i64) -> Called
-    ensures { OrMemory result (answered call.now (spec_of.clamped low high n)) }
+    ensures { OrMemory result (answered call.now (spec.clamped low high n)) }
 {
     if high < low {
         return call.raises(ErrorClass::Argument, b"min above max");
@@ -247,26 +230,26 @@ fn by_place(call: &Call, n: i64, place: u16) -> Result<Called, Called>
     ensures { Says result (row_answered call.now n (row_at int_rows place)) }
 {
     cases!(Some(place);
-        REM => Ok(integer(call, floor_rem(n, divisor(call)?))),
-        TIMES => Ok(integer(call, product(n, call.one_int()?))),
-        PLUS => Ok(integer(call, sum(n, call.one_int()?))),
-        MINUS => Ok(integer(call, difference(n, call.one_int()?))),
+        REM => Ok(call.integer(floor_rem(n, divisor(call)?))),
+        TIMES => Ok(call.integer(product(n, call.one_int()?))),
+        PLUS => Ok(call.integer(sum(n, call.one_int()?))),
+        MINUS => Ok(call.integer(difference(n, call.one_int()?))),
         NEGATE => {
             call.no_argument()?;
-            Ok(integer(call, negated(n)))
+            Ok(call.integer(negated(n)))
         },
-        DIV => Ok(integer(call, floor_div(n, divisor(call)?))),
-        LESS => Ok(truth(call, n < call.one_int()?)),
-        LESS_OR_SAME => Ok(truth(call, n <= call.one_int()?)),
-        MORE => Ok(truth(call, n > call.one_int()?)),
-        MORE_OR_SAME => Ok(truth(call, n >= call.one_int()?)),
+        DIV => Ok(call.integer(floor_div(n, divisor(call)?))),
+        LESS => Ok(call.truth(n < call.one_int()?)),
+        LESS_OR_SAME => Ok(call.truth(n <= call.one_int()?)),
+        MORE => Ok(call.truth(n > call.one_int()?)),
+        MORE_OR_SAME => Ok(call.truth(n >= call.one_int()?)),
         ABS => {
             call.no_argument()?;
-            Ok(integer(call, magnitude(n)))
+            Ok(call.integer(magnitude(n)))
         },
         BETWEEN => {
             let (low, high) = call.two_ints()?;
-            Ok(truth(call, low <= n && n <= high))
+            Ok(call.truth(low <= n && n <= high))
         },
         CLAMP => {
             let (low, high) = call.two_ints()?;
@@ -278,19 +261,19 @@ fn by_place(call: &Call, n: i64, place: u16) -> Result<Called, Called>
         },
         EVEN => {
             call.no_argument()?;
-            Ok(truth(call, n.unsigned_abs() % 2 == 0))
+            Ok(call.truth(n.unsigned_abs() % 2 == 0))
         },
         ODD => {
             call.no_argument()?;
-            Ok(truth(call, n.unsigned_abs() % 2 == 1))
+            Ok(call.truth(n.unsigned_abs() % 2 == 1))
         },
         PRED => {
             call.no_argument()?;
-            Ok(integer(call, difference(n, 1)))
+            Ok(call.integer(difference(n, 1)))
         },
         SUCC => {
             call.no_argument()?;
-            Ok(integer(call, sum(n, 1)))
+            Ok(call.integer(sum(n, 1)))
         },
         TO_I => {
             call.no_argument()?;
@@ -298,7 +281,7 @@ fn by_place(call: &Call, n: i64, place: u16) -> Result<Called, Called>
         },
         ZERO => {
             call.no_argument()?;
-            Ok(truth(call, n == 0))
+            Ok(call.truth(n == 0))
         };
         Ok(Called::NoMethod)
     )

@@ -1,33 +1,34 @@
 ghost use Rattle.std.specs.Prelude.{◌≡◌, ◌+ℤ◌, ◌-ℤ◌, ◌*ℤ◌, ◌≢◌, neg_ℤ, pos, unsigned_abs, FitsSigned};
 ghost use Rattle.std.specs.Int.{w64};
-ghost use Rattle.ruby_builtin_numbers.specs.Numbers as spec;
+ghost use Rattle.ruby_builtin_base.specs.Results.{fitted};
+ghost use Rattle.ruby_builtin_numbers.specs.Division as spec;
 
 pub fn sum(n: i64, m: i64) -> Option<i64>
-    ensures { result ≡ spec.fitted (n +ℤ m) }
+    ensures { result ≡ fitted (n +ℤ m) }
 {
     n.checked_add(m)
 }
 
 pub fn difference(n: i64, m: i64) -> Option<i64>
-    ensures { result ≡ spec.fitted (n -ℤ m) }
+    ensures { result ≡ fitted (n -ℤ m) }
 {
     n.checked_sub(m)
 }
 
 pub fn product(n: i64, m: i64) -> Option<i64>
-    ensures { result ≡ spec.fitted (n *ℤ m) }
+    ensures { result ≡ fitted (n *ℤ m) }
 {
     n.checked_mul(m)
 }
 
 pub fn negated(n: i64) -> Option<i64>
-    ensures { result ≡ spec.fitted (neg_ℤ n) }
+    ensures { result ≡ fitted (neg_ℤ n) }
 {
     n.checked_neg()
 }
 
 pub fn magnitude(n: i64) -> Option<i64>
-    ensures { result ≡ spec.fitted (pos (unsigned_abs n)) }
+    ensures { result ≡ fitted (pos (unsigned_abs n)) }
 {
     n.checked_abs()
 }
@@ -35,7 +36,7 @@ pub fn magnitude(n: i64) -> Option<i64>
 /// The quotient rounded down.
 pub fn floor_div(n: i64, m: i64) -> Option<i64>
     requires { m ≢ pos 0 }
-    ensures { result ≡ spec.fitted (spec.floor_div n m) }
+    ensures { result ≡ fitted (spec.floor_div n m) }
 {
     i64::try_from(wide_floor_div(i128::from(n), i128::from(m))).ok()
 }
@@ -43,7 +44,7 @@ pub fn floor_div(n: i64, m: i64) -> Option<i64>
 /// What is left by the quotient rounded down. It has the divisor's sign.
 pub fn floor_rem(n: i64, m: i64) -> Option<i64>
     requires { m ≢ pos 0 }
-    ensures { result ≡ spec.fitted (spec.floor_rem n m) }
+    ensures { result ≡ fitted (spec.floor_rem n m) }
 {
     i64::try_from(wide_floor_rem(i128::from(n), i128::from(m))).ok()
 }

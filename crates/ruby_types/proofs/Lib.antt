@@ -1,2 +1,3 @@
+mod PrefixLaws
 mod SameLaws
 mod SizeLaws

@@ -2,7 +2,7 @@
 use Rattle.std.proofs.Common.{◌≡◌, ℕ, suc, Bool, true, false, ◌&&◌, List, [], ◌∷◌, length, map, refl, ap, ◌∙◌, sym}
 use Rattle.std.specs.Prelude.{count_by, nat_eq}
 use Rattle.std.specs.Str.{bytes_eq}
-use Rattle.ruby_types.specs.declared.value.Value.{Value, Value-F, para-Value, para-roll-Value, out-Value}
+use Rattle.ruby_types.specs.declared.value.Value.{Value, Value-F, para-roll-Value, out-Value}
 use Rattle.ruby_types.specs.declared.value.Value.{roll-out-Value, map-Value}
 use Rattle.ruby_types.specs.declared.value.Value.TheOpen as layer
 use Rattle.ruby_types.specs.declared.value.Value.TheVariants as v
@@ -153,3 +153,19 @@ module _ (test : Value × Value → Value × Value → Bool) (ps xs own other : 
 
   pub counts_go_on : m ≡ n → same_counts test (drop (i + 1) ps) own other ≡ w
   counts_go_on q = rw (eq-eqb _ _ (sym in_own ∙ q ∙ in_other)) at counts_here
+
+-- ---- one list of pairs against itself
+
+counts_of_one : {P : Type 0} (test : P → Value × Value → Bool) (ps : List P) (pairs : List (Value × Value)) →
+    same_counts test ps pairs pairs ≡ true
+counts_of_one test [] pairs = refl
+counts_of_one test (p ∷ ps) pairs =
+    ap (λ b. b && same_counts test ps pairs pairs) (eq-eqb (count_by (test p) pairs) _ refl)
+    ∙ counts_of_one test ps pairs
+
+-- hashes of the same pairs in one order are the same
+pub same_in_order : (ps qs : List (Value × Value)) → ps ≡ qs →
+    true ≡ (nat_eq (length ps) (length qs) && same_counts same_both ps ps qs)
+same_in_order ps qs e =
+    sym (ap (λ b. b && same_counts same_both ps ps qs) (eq-eqb (length ps) (length qs) (ap length e))
+    ∙ ap (λ l. same_counts same_both ps ps l) (sym e) ∙ counts_of_one same_both ps ps)

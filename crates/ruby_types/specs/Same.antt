@@ -1,7 +1,7 @@
 -- When two values are the same (the Ruby documentation of Array#== and Hash#==): by structure. Two hashes are the same
 -- where each pair stands in the one as often as in the other, in any order: `{a: 1, b: 2} == {b: 2, a: 1}`. Two objects
 -- are the same where they have one class and the same variables in the same order.
-use Rattle.std.specs.Prelude.{ℕ, Bool, true, false, ◌&&◌, nat_eq, List, [], ◌∷◌, length, count_by, map}
+use Rattle.std.specs.Prelude.{Bool, true, false, ◌&&◌, nat_eq, List, [], ◌∷◌, length, count_by, map}
 use Rattle.std.specs.Str.{bytes_eq}
 use Rattle.std.specs.Ordering.{int_eq}
 use Rattle.ruby_types.specs.declared.value.Value.{Value, Value-F, para-Value, out-Value}

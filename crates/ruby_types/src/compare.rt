@@ -3,7 +3,12 @@ ghost use Rattle.std.specs.Ordering.{int_eq};
 ghost use Rattle.std.specs.Str.{bytes_eq};
 ghost use Rattle.ruby_types.specs.Same.{same, same_both, same_each, same_counts};
 
+use crate::identical::identical_pairs;
 use crate::value::{CPath, Items, Pairs, Value};
+
+/// Hashes of more pairs are read once in order before their pairs are counted. Smaller ones aren't, so that hashes that
+/// are nested deep aren't read again at each level.
+const FEW_PAIRS: usize = 256;
 
 /// The same value by structure, where a Hash has the same pairs, each as often, in any order. It takes no memory.
 #[cycle(equal)]
@@ -102,7 +107,13 @@ fn count(p: &(Value, Value), pairs: &Pairs) -> usize
 fn equal_hashes(a: &Pairs, b: &Pairs) -> bool
     ensures { result ≡ (nat_eq (length a.now) (length b.now) && same_counts same_both a.now a.now b.now) }
 {
-    a.len() == b.len() && equal_counts(a, b)
+    if a.len() != b.len() {
+        return false;
+    }
+    if a.len() > FEW_PAIRS && identical_pairs(a, b) {
+        return true;
+    }
+    equal_counts(a, b)
 }
 
 #[cycle(equal)]
@@ -136,4 +147,37 @@ fn equal_ints(m: &i64, n: &i64) -> bool
     ensures { result ≡ int_eq m.now n.now }
 {
     *m == *n
+}
+
+#[cfg(test)]
+mod tests {
+    use super::equal;
+    use crate::value::{Pairs, Value};
+    use std::alloc::{AllocError, Global};
+    use std::test::Fail;
+    use std::time::{Duration, Instant};
+
+    fn numbered(alloc: Global, count: u32) -> Result<Value, AllocError> {
+        let mut pairs = Pairs::new(alloc);
+        for number in 0..count {
+            let number = i64::from(number);
+            pairs.push((Value::Int(number), Value::Int(number)))?;
+        }
+        Ok(Value::Hash(pairs))
+    }
+
+    #[test]
+    fn hashes_of_fifty_thousand_pairs_in_one_order_are_compared_at_once(
+        rt: HostRuntime,
+    ) -> Result<(), Fail> {
+        let first = numbered(rt.alloc(), 50_000)?;
+        let second = numbered(rt.alloc(), 50_000)?;
+        let start = Instant::now(&rt)?;
+        assert!(rt; equal(&first, &second));
+        assert!(rt;
+            start.elapsed(&rt)? < Duration::from_millis(100),
+            "one pass"
+        );
+        Ok(())
+    }
 }

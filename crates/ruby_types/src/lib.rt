@@ -6,6 +6,7 @@
 
 mod compare;
 mod copies;
+mod identical;
 mod request;
 mod sizes;
 mod tree;

@@ -70,6 +70,8 @@ fn inner_size(names: &[Text]) -> u64
 #[cfg(test)]
 mod tests {
     use super::size;
+    use crate::compare::equal;
+    use crate::copies::copy;
     use crate::value::{CPath, Items, Pairs, Text, Value};
     use lists::Copying;
     use std::alloc::{AllocError, Global};
@@ -84,23 +86,25 @@ mod tests {
         Ok(value)
     }
 
-    /// The sizes of a value that is nested so deep and of its copy, both of which are dropped here.
-    fn sizes_of_nested(alloc: Global, levels: u32) -> Option<(u64, u64)> {
+    /// The size of a value that is nested so deep, and whether it is the same as one that is made alike. Both are
+    /// dropped here.
+    fn size_of_nested(alloc: Global, levels: u32) -> Option<(u64, bool)> {
         let value = nested(alloc, levels).ok()?;
-        let copied = value.copy().ok()?;
-        Some((size(&value), size(&copied)))
+        let copied = copy(&value).ok()?;
+        let alike = nested(alloc, levels).ok()?;
+        Some((size(&copied), equal(&value, &alike)))
     }
 
     #[test]
-    fn a_value_of_ninety_thousand_levels_is_measured_copied_and_dropped(
+    fn a_value_of_ninety_thousand_levels_is_measured_copied_compared_and_dropped(
         rt: HostRuntime,
     ) -> Result<(), Fail> {
         let alloc = rt.alloc();
         let deep = thread::Builder::new().stack_size(1 << 30);
-        let sizes = deep
-            .spawn(&rt, move || sizes_of_nested(alloc, 90_000))?
+        let measured = deep
+            .spawn(&rt, move || size_of_nested(alloc, 90_000))?
             .join(&rt);
-        assert_eq!(rt; sizes, Some((1_440_016, 1_440_016)));
+        assert_eq!(rt; measured, Some((1_440_016, true)));
         Ok(())
     }
 
@@ -131,7 +135,7 @@ mod tests {
         let alloc = rt.alloc();
         let hash = Value::Hash(one_pair(alloc, name(alloc, b"a")?, text(alloc, b"bc")?)?);
         assert_eq!(rt; size(&hash), 51);
-        assert_eq!(rt; size(&hash.copy()?), 51);
+        assert_eq!(rt; size(&copy(&hash)?), 51);
         Ok(())
     }
 

@@ -1,9 +1,7 @@
-use Rattle.std.proofs.Common.{◌∙◌, sym, arith}
-use Rattle.std.proofs.lemmas.Grind.{common_steps}
-use Rattle.std.proofs.lemmas.Bool.Decides.{nat_tests}
+use Rattle.std.proofs.Common.{◌∙◌, sym, arith, rules, tests}
 use Rattle.ruby_types.specs.Same.{same_both}
 use Rattle.ruby_types.proofs.SameLaws.{same-Int, same-Str, same-Sym, same-Array, same-Hash, same-Module, same-Object}
-use Rattle.ruby_types.proofs.SameLaws.{counts_differ, counts_go_on}
+use Rattle.ruby_types.proofs.SameLaws.{counts_differ, counts_go_on, same_in_order}
 use Rattle.ruby_types.proofs.compare.+equal.Goals as goal
 
 pub equal-returns-in-Int-b : goal.equal-returns-in-Int-b
@@ -41,3 +39,7 @@ pub equal_counts-counts-preserved : goal.equal_counts-counts-preserved
 equal_counts-counts-preserved t c =
     counts_go_on same_both _ _ _ _ _ c.p-item.result _ _ _ c.as_slice-p-items.ensures c.counts-test.true c.p-item.is
     c.counts.invariant c.count.ensures c.count-in-counts.ensures c.if-count.false
+
+pub equal_hashes-returns-then-identical_pairs : goal.equal_hashes-returns-then-identical_pairs
+equal_hashes-returns-then-identical_pairs t c =
+    same_in_order c.args.a.now c.args.b.now (c.identical_pairs.ensures (search (rules, tests)))
