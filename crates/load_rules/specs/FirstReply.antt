@@ -1,11 +1,13 @@
 -- The reply to a request on files of the first form.
-use Rattle.std.specs.Prelude.{◌≡◌, ◌≢◌, ◌⊎◌, ℕ, List, ◌++◌, codes, Contains}
+use Rattle.std.specs.Prelude.{◌≡◌, ◌≢◌, ◌⊎◌, ℕ, List, ◌++◌, codes, Contains, Any, ⊤}
 use Rattle.outside.specs.declared.files.FileEntry.{FileEntry}
 use Rattle.ruby_types.specs.declared.request.Reply.{Reply}
 use Rattle.ruby_grammar.specs.Faults.{IsText, Why, NoText}
 use Rattle.load_rules.specs.Names.{IsLetters, first_path, class_name}
 use Rattle.load_rules.specs.FirstForm.{FirstParts, first_tree}
 use Rattle.load_rules.specs.Printed.{kind_text, syntax_error}
+use Rattle.load_rules.specs.declared.refusal.FirstRefusal.{FirstRefusal}
+use Rattle.load_rules.specs.declared.refusal.FirstRefusal.TheVariants.{NotBuilt, Memory}
 
 -- the bytes are a text whose tree is of the first form
 abbrev pub IsFirstText : (class bytes : List ℕ) → FirstParts → Type 0
@@ -27,6 +29,11 @@ pub record IsReadable (file : FileEntry) : Type 0 where
 pub record IsFileOf (files : List FileEntry) (controller : List ℕ) (file : FileEntry) : Type 0 where
   pub among : Contains files file
   pub path : file.path ≡ first_path controller
+
+-- a file of this path is not readable; want of memory says nothing of the files
+abbrev pub IsRefusalOf : List FileEntry → FirstRefusal → Type 0
+IsRefusalOf files (NotBuilt path) = Any (λ file. (file.path ≡ path) × ¬ (IsReadable file)) files
+IsRefusalOf files Memory = ⊤
 
 abbrev pub no_controller_text : (class : List ℕ) → List ℕ
 no_controller_text class = codes "no controller " ++ class

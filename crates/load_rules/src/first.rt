@@ -1,14 +1,16 @@
 //! Replies on files of the first form.
-ghost use Rattle.std.specs.Prelude.{◌≡◌, ℕ, List, ◌<◌, ◌^◌, length, All, Any, IfOk, OnOk};
+ghost use Rattle.std.specs.Prelude.{◌≡◌, ℕ, List, ◌<◌, ◌^◌, length, All, IfOk, IfErr, OnOk};
 ghost use Rattle.load_rules.specs.FirstForm.{FirstParts, first_tree};
 ghost use Rattle.load_rules.specs.FirstReply.{IsReadable, IsReplyOf, IsFileReply, FirstReply, no_controller_text};
-ghost use Rattle.load_rules.specs.FirstReply.{no_action_text};
+ghost use Rattle.load_rules.specs.FirstReply.{no_action_text, IsRefusalOf};
 ghost use Rattle.load_rules.specs.Readings.{IsReadingOf, IsAskedOf, IsFoundReply};
 
 use crate::fault::syntax_error;
 use crate::form::first_method;
 use crate::names::{Asked, asked_of};
-use crate::reading::{FirstRefusal, Reading, read_file};
+use crate::reading::{Reading, read_file};
+use crate::refusal::FirstRefusal;
+use lists::Copying;
 use outside::{FileEntry, Snapshot};
 use ruby_types::{FileTree, Reply, Text};
 use std::alloc::{AllocError, Global};
@@ -87,11 +89,13 @@ fn find_reply(
     requires asked { (controller : List ℕ) × (action : List ℕ) × IsAskedOf controller action asked.now }
     ensures readable { OnOk result (All IsReadable files.now) }
     ensures reply { IfOk result (IsFoundReply files.now asked.now) }
-    ensures not_built { result ≡ Err FirstRefusal.NotBuilt → Any (λ file. ¬ (IsReadable file)) files.now }
+    ensures not_built { IfErr result (IsRefusalOf files.now) }
 {
     let mut reply = None;
     'files: for file in files {
-        let reading = read_file(alloc, file)?;
+        let Some(reading) = read_file(alloc, file)? else {
+            return Err(FirstRefusal::NotBuilt(file.path.copy()?));
+        };
         if file.path.as_bytes() == asked.path.as_bytes() {
             reply = Some(file_reply(alloc, file, &reading, asked)?);
         }
@@ -109,7 +113,7 @@ pub fn first_reply(
     requires { All (λ file. length file.bytes < 2 ^ 32) snapshot.now.files }
     ensures readable { OnOk result (All IsReadable snapshot.now.files) }
     ensures reply { IfOk result (FirstReply snapshot.now.files controller.now action.now) }
-    ensures not_built { result ≡ Err FirstRefusal.NotBuilt → Any (λ file. ¬ (IsReadable file)) snapshot.now.files }
+    ensures not_built { IfErr result (IsRefusalOf snapshot.now.files) }
 {
     let asked = asked_of(alloc, controller, action)?;
     match find_reply(alloc, snapshot.files.as_slice(), &asked)? {

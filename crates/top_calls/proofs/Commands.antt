@@ -1,76 +1,113 @@
--- Which words are `get` with a target that is answered today.
-use Rattle.std.proofs.Common.{◌≡◌, ℕ, List, [], ◌∷◌, codes, slice_index, refl, sym, ap, ◌∙◌, subst, arith}
-use Rattle.top_calls.specs.Words.{FitsGet, Fits, IsCommandLine, name_text}
-use Rattle.top_calls.specs.declared.words.CommandName.{CommandName}
+-- Which words the commands have.
+use Rattle.std.proofs.Common.{◌≡◌, ℕ, List, [], ◌∷◌, Option, Some, None, codes, slice_index, refl, sym, ap, ◌∙◌, subst}
+use Rattle.std.proofs.Common.{arith}
+use Rattle.std.specs.Borrow.{Bor}
+use Rattle.std.specs.Fmt.{decimal}
+use Rattle.top_calls.specs.Words.{IsCommandLine, AreConnections}
 use Rattle.top_calls.specs.Target.{IsFirstTarget}
-use Rattle.top_calls.specs.declared.words.CommandName.TheVariants.{Get, Check, Tree, Replay, Demo, Serve}
-use Rattle.top_calls.specs.Output.{IsFirstGet, tree_words}
+use Rattle.top_calls.specs.Output.{IsFirstGet, IsOtherCommand, IsGet, tree_words}
+use Rattle.top_calls.specs.Command.{Spells, SpellsConnections}
+use Rattle.top_calls.specs.declared.words.CommandName.TheVariants as n
+use Rattle.top_calls.specs.declared.words.Command.{Command}
+use Rattle.top_calls.specs.declared.words.Command.TheVariants.{Get, Check, CheckEager, Tree, Replay, Demo, Serve}
 
-pub first_get_is : (arguments : List (List ℕ)) (target controller action : List ℕ) → FitsGet arguments →
-    arguments ≡ target ∷ [] → IsFirstTarget target controller action
-    → IsFirstGet (codes "get" ∷ arguments) controller action
-first_get_is arguments target controller action fits is first =
-    (target, ap (λ a. codes "get" ∷ a) is, subst FitsGet is fits, first)
+are_connections : (connections : Option ℕ) (words : List (List ℕ)) → SpellsConnections connections words →
+    AreConnections words
+are_connections None words is = subst AreConnections (sym is) tt
+are_connections (Some n) words (is, least, greatest) = subst AreConnections (sym is) (n, least, greatest, refl)
+
+-- the words of a command are a command line
+pub is_command_line : (command : Command) (words : List (List ℕ)) → Spells command words → IsCommandLine words
+is_command_line (Get target) words (is, fits) = subst IsCommandLine (sym is) (n.Get, (refl, fits))
+is_command_line Check words is = subst IsCommandLine (sym is) (n.Check, (refl, tt))
+is_command_line CheckEager words is = subst IsCommandLine (sym is) (n.Check, (refl, refl))
+is_command_line Tree words is = subst IsCommandLine (sym is) (n.Tree, (refl, refl))
+is_command_line Replay words is = subst IsCommandLine (sym is) (n.Replay, (refl, refl))
+is_command_line (Demo number) words (is, least, greatest) =
+    subst IsCommandLine (sym is) (n.Demo, (refl, (number, least, greatest, refl)))
+is_command_line (Serve address workers connections) words (rest, is, some, least, greatest, more) =
+    subst IsCommandLine (sym is)
+    (n.Serve, (refl, (some, (workers, least, greatest, refl), are_connections connections rest more)))
+
+-- ---- which question the words ask
+
+-- the first of the words
+first_word : (w v : List ℕ) (ws vs : List (List ℕ)) → w ∷ ws ≡ v ∷ vs → w ≡ v
+first_word w v ws vs e = cc
+
+-- a word of another first letter is another word
+other_word : (word name : List ℕ) (rest more : List (List ℕ)) → (slice_index word 0 ≡ slice_index name 0 → ⊥) →
+    word ∷ rest ≡ name ∷ more → ⊥
+other_word word name rest more other e = other (ap (λ w. slice_index w 0) (first_word word name rest more e))
 
 one_argument : (arguments : List (List ℕ)) (target : List ℕ) →
     ◌≡◌ {A = List (List ℕ)} (codes "get" ∷ arguments) (codes "get" ∷ target ∷ []) → arguments ≡ target ∷ []
 one_argument arguments target e = cc
 
-pub no_other_word : (arguments : List (List ℕ)) → ((word : List ℕ) → arguments ≡ word ∷ [] → ⊥) →
-    (controller action : List ℕ) → ¬ (IsFirstGet (codes "get" ∷ arguments) controller action)
-no_other_word arguments unlike controller action is = unlike is.0 (one_argument arguments is.0 is.1)
+one_target : (target other : List ℕ) → ◌≡◌ {A = List (List ℕ)} (target ∷ []) (other ∷ []) → other ≡ target
+one_target target other e = cc
 
-pub no_other_target : (arguments : List (List ℕ)) (target : List ℕ) → arguments ≡ target ∷ [] →
-    ((controller action : List ℕ) → ¬ (IsFirstTarget target controller action))
-    → (controller action : List ℕ) → ¬ (IsFirstGet (codes "get" ∷ arguments) controller action)
-no_other_target arguments target is unlike controller action get =
-    let same : ◌≡◌ {A = List (List ℕ)} (target ∷ []) (get.0 ∷ []) = sym is ∙ one_argument arguments get.0 get.1 in
-    let word : target ≡ get.0 = cc in
-    unlike controller action (subst (λ t. IsFirstTarget t controller action) (sym word) get.3)
-
-pub is_command_line : (words arguments : List (List ℕ)) (name : CommandName) → words ≡ name_text name ∷ arguments →
-    Fits name arguments → IsCommandLine words
-is_command_line words arguments name is fits = subst IsCommandLine (sym is) (name, (refl, fits))
-
--- the command `tree` has no arguments
-pub tree_is : (arguments : List (List ℕ)) (name : CommandName) → name ≡ Tree → Fits name arguments →
-    name_text name ∷ arguments ≡ tree_words
-tree_is arguments name e fits = tree_of name e fits
-  where
-    tree_of : (n : CommandName) → n ≡ Tree → Fits n arguments → name_text n ∷ arguments ≡ tree_words
-    tree_of Get e fits = absurd (let f : ◌≡◌ {A = CommandName} Get Tree = e in cc)
-    tree_of Check e fits = absurd (let f : ◌≡◌ {A = CommandName} Check Tree = e in cc)
-    tree_of Tree e fits = ap (λ a. codes "tree" ∷ a) fits
-    tree_of Replay e fits = absurd (let f : ◌≡◌ {A = CommandName} Replay Tree = e in cc)
-    tree_of Demo e fits = absurd (let f : ◌≡◌ {A = CommandName} Demo Tree = e in cc)
-    tree_of Serve e fits = absurd (let f : ◌≡◌ {A = CommandName} Serve Tree = e in cc)
-
-first_word : (w v : List ℕ) (ws vs : List (List ℕ)) → w ∷ ws ≡ v ∷ vs → w ≡ v
-first_word w v ws vs e = cc
-
--- a word of another first letter is another word
-not_tree : (word : List ℕ) → (slice_index word 0 ≡ 116 → ⊥) → word ≡ codes "tree" → ⊥
-not_tree word other e = other (ap (λ w. slice_index w 0) e)
-
--- no other command has its word
-pub no_tree : (arguments : List (List ℕ)) (name : CommandName) → (name ≡ Tree → ⊥) →
-    name_text name ∷ arguments ≡ tree_words → ⊥
-no_tree arguments Get other e = not_tree (codes "get") (λ n. absurd (omega (arith, n)))
-    (first_word (codes "get") (codes "tree") arguments [] e)
-no_tree arguments Check other e = not_tree (codes "check") (λ n. absurd (omega (arith, n)))
-    (first_word (codes "check") (codes "tree") arguments [] e)
-no_tree arguments Tree other e = other refl
-no_tree arguments Replay other e = not_tree (codes "replay") (λ n. absurd (omega (arith, n)))
-    (first_word (codes "replay") (codes "tree") arguments [] e)
-no_tree arguments Demo other e = not_tree (codes "demo") (λ n. absurd (omega (arith, n)))
-    (first_word (codes "demo") (codes "tree") arguments [] e)
-no_tree arguments Serve other e = not_tree (codes "serve") (λ n. absurd (omega (arith, n)))
-    (first_word (codes "serve") (codes "tree") arguments [] e)
-
+-- `get` is no `tree`
 pub get_is_no_tree : (words : List (List ℕ)) (controller action : List ℕ) → IsFirstGet words controller action →
     words ≡ tree_words → ⊥
-get_is_no_tree words controller action get e = not_tree (codes "get") (λ n. absurd (omega (arith, n)))
-    (first_word (codes "get") (codes "tree") (get.0 ∷ []) [] (sym get.1 ∙ e))
+get_is_no_tree words controller action get e =
+    other_word (codes "get") (codes "tree") (get.0 ∷ []) [] (λ n. absurd (omega (arith, n))) (sym get.1 ∙ e)
 
 pub tree_is_command : (words : List (List ℕ)) → words ≡ tree_words → IsCommandLine words
-tree_is_command words e = subst IsCommandLine (sym e) (Tree, (refl, refl))
+tree_is_command words e = subst IsCommandLine (sym e) (n.Tree, (refl, refl))
+
+-- words whose first is neither `get` nor `tree`
+other_words : (words rest : List (List ℕ)) (name : List ℕ) → words ≡ name ∷ rest →
+    (slice_index name 0 ≡ 103 → ⊥) → (slice_index name 0 ≡ 116 → ⊥) → IsCommandLine words →
+    IsOtherCommand words × ¬ (IsGet words)
+other_words words rest name is no_get no_tree line = (
+  (
+    line,
+    λ controller action get. other_word name (codes "get") rest (get.0 ∷ []) no_get (sym is ∙ get.1),
+    λ e. other_word name (codes "tree") rest [] no_tree (sym is ∙ e),
+  ),
+  λ get. other_word name (codes "get") rest (get.0 ∷ []) no_get (sym is ∙ get.1),
+)
+
+-- a command that is neither `get` nor `tree` is not built
+pub asks_nothing : (command : Command) (words : List (List ℕ)) → Spells command words →
+    ((target : Bor (List ℕ)) → command ≡ Get target → ⊥) → (command ≡ Tree → ⊥) →
+    IsOtherCommand words × ¬ (IsGet words)
+asks_nothing (Get target) words is no_get no_tree = absurd (no_get target refl)
+asks_nothing Check words is no_get no_tree =
+    other_words words [] (codes "check") is (λ h. absurd (omega (arith, h))) (λ h. absurd (omega (arith, h)))
+    (is_command_line Check words is)
+asks_nothing CheckEager words is no_get no_tree =
+    other_words words (codes "eager" ∷ []) (codes "check") is (λ h. absurd (omega (arith, h)))
+    (λ h. absurd (omega (arith, h))) (is_command_line CheckEager words is)
+asks_nothing Tree words is no_get no_tree = absurd (no_tree refl)
+asks_nothing Replay words is no_get no_tree =
+    other_words words [] (codes "replay") is (λ h. absurd (omega (arith, h))) (λ h. absurd (omega (arith, h)))
+    (is_command_line Replay words is)
+asks_nothing (Demo number) words is no_get no_tree =
+    other_words words (decimal number ∷ []) (codes "demo") is.0 (λ h. absurd (omega (arith, h)))
+    (λ h. absurd (omega (arith, h))) (is_command_line (Demo number) words is)
+asks_nothing (Serve address workers connections) words is no_get no_tree =
+    other_words words (address.now ∷ decimal workers ∷ is.0) (codes "serve") is.1 (λ h. absurd (omega (arith, h)))
+    (λ h. absurd (omega (arith, h))) (is_command_line (Serve address workers connections) words is)
+
+-- a request with a target that is answered today
+pub asks_reply : (target : Bor (List ℕ)) (words : List (List ℕ)) (controller action : List ℕ) →
+    Spells (Get target) words → IsFirstTarget target.now controller action → IsFirstGet words controller action
+asks_reply target words controller action (is, fits) first = (target.now, is, fits, first)
+
+-- a request with another target
+pub asks_other_target : (target : Bor (List ℕ)) (words : List (List ℕ)) → Spells (Get target) words →
+    ((controller action : List ℕ) → ¬ (IsFirstTarget target.now controller action)) →
+    IsOtherCommand words × IsGet words
+asks_other_target target words (is, fits) other = (
+  (
+    is_command_line (Get target) words (is, fits),
+    λ controller action get.
+        (let same : get.0 ≡ target.now =
+        one_target target.now get.0 (one_argument (target.now ∷ []) get.0 (sym is ∙ get.1)) in
+        other controller action (subst (λ t. IsFirstTarget t controller action) same get.3)),
+    λ e. other_word (codes "get") (codes "tree") (target.now ∷ []) [] (λ h. absurd (omega (arith, h))) (sym is ∙ e),
+  ),
+  (target.now, is),
+)

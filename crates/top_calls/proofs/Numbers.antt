@@ -8,30 +8,30 @@ use Rattle.std.proofs.lemmas.Fmt.{IsAscii-decimal, parse-decimal}
 use Rattle.std.proofs.lemmas.Str.{IsUtf8-from_ascii}
 use Rattle.top_calls.specs.Words.{IsNumber}
 
-pub number_is_utf8 : (most : ℕ) (word : List ℕ) → most < 2 ^ 64 → IsNumber most word → IsUtf8 word
+pub number_is_utf8 : (most : ℕ) (word : List ℕ) → most < 2 ^ 32 → IsNumber most word → IsUtf8 word
 number_is_utf8 most word fits (n, least, greatest, is) =
     subst IsUtf8 (sym is) (IsUtf8-from_ascii (decimal n) (IsAscii-decimal n (omega arith)))
 
-pub parses_to : (n m : ℕ) (text : List ℕ) → n < 2 ^ 64 → text ≡ decimal n →
-    ParsesUnsigned {E = Unit {0}} 64 10 text (Ok m) → ◌≡◌ {A = Option ℕ} (Some m) (Some n)
+pub parses_to : (n m : ℕ) (text : List ℕ) → n < 2 ^ 32 → text ≡ decimal n →
+    ParsesUnsigned {E = Unit {0}} 32 10 text (Ok m) → ◌≡◌ {A = Option ℕ} (Some m) (Some n)
 parses_to n m text fits is reads = let p : ◌≡◌ {A = Result ℕ (Unit {0})} (Ok m) (Ok n) =
-    parse-decimal {E = Unit {0}} 64 n text (Ok m) fits fits is reads in cc
+    parse-decimal {E = Unit {0}} 32 n text (Ok m) fits (omega (arith, fits)) is reads in cc
 
-pub parses_something : (n : ℕ) (text : List ℕ) → n < 2 ^ 64 → text ≡ decimal n →
-    ¬ (ParsesUnsigned {E = Unit {0}} 64 10 text (Err tt))
+pub parses_something : (n : ℕ) (text : List ℕ) → n < 2 ^ 32 → text ≡ decimal n →
+    ¬ (ParsesUnsigned {E = Unit {0}} 32 10 text (Err tt))
 parses_something n text fits is reads = let p : ◌≡◌ {A = Result ℕ (Unit {0})} (Err tt) (Ok n) =
-    parse-decimal {E = Unit {0}} 64 n text (Err tt) fits fits is reads in cc
+    parse-decimal {E = Unit {0}} 32 n text (Err tt) fits (omega (arith, fits)) is reads in cc
 
 -- what a parser of numbers gives for the digits of a number
 abbrev pub Parses : List ℕ → Option ℕ → Type 0
-Parses text parsed = (n : ℕ) → n < 2 ^ 64 → text ≡ decimal n → parsed ≡ Some n
+Parses text parsed = (n : ℕ) → n < 2 ^ 32 → text ≡ decimal n → parsed ≡ Some n
 
-pub no_number : (most : ℕ) (word text : List ℕ) → most < 2 ^ 64 → text ≡ word → Parses text None →
+pub no_number : (most : ℕ) (word text : List ℕ) → most < 2 ^ 32 → text ≡ word → Parses text None →
     ¬ (IsNumber most word)
 no_number most word text fits same reads (n, least, greatest, is) = let p : ◌≡◌ {A = Option ℕ} None (Some n) =
     reads n (omega arith) (same ∙ is) in cc
 
-pub is_that_number : (most n : ℕ) (word text : List ℕ) → most < 2 ^ 64 → text ≡ word → Parses text (Some n) →
+pub is_that_number : (most n : ℕ) (word text : List ℕ) → most < 2 ^ 32 → text ≡ word → Parses text (Some n) →
     IsNumber most word → (1 ≤ n) × (n ≤ most) × (word ≡ decimal n)
 is_that_number most n word text fits same reads (m, least, greatest, is) =
     let p : ◌≡◌ {A = Option ℕ} (Some n) (Some m) = reads m (omega arith) (same ∙ is) in

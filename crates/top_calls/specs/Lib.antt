@@ -3,3 +3,4 @@ pub mod Command
 pub mod Target
 pub mod Response
 pub mod Output
+pub mod Answers

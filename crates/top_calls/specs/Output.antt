@@ -1,6 +1,6 @@
 -- What a command writes, and how it ends.
 use Rattle.std.specs.Prelude.{◌≡◌, ◌≢◌, ◌⊎◌, ℕ, ◌<◌, ◌==◌, List, [], ◌∷◌, ◌++◌, length, take, codes, All, Any, Option}
-use Rattle.std.specs.Prelude.{IfSome, if◌then◌else◌, ⊤}
+use Rattle.std.specs.Prelude.{IfSome, if◌then◌else◌}
 use Rattle.outside.specs.Told.{appended}
 use Rattle.outside.specs.declared.files.FileEntry.{FileEntry}
 use Rattle.ruby_types.specs.declared.request.Reply.{Reply}
@@ -12,25 +12,30 @@ use Rattle.tree_report.specs.Refusals.{refusal_text}
 use Rattle.tree_report.specs.declared.refusal.Refusal.{Refusal}
 use Rattle.tree_command.specs.Tree.{IsTreeListing, IsRefused}
 use Rattle.top_calls.specs.Response.{response_bytes}
-use Rattle.top_calls.specs.declared.status.Status.{Status}
-use Rattle.top_calls.specs.declared.status.Status.TheVariants.{Done, Negative, FaultyWords, TreeFault, WriteFault}
-use Rattle.top_calls.specs.declared.status.Status.TheVariants.{Memory, Refused, NotBuilt}
+use Rattle.top_calls.specs.declared.outcome.Outcome.{Outcome}
+use Rattle.top_calls.specs.declared.outcome.Outcome.TheVariants.{Done, Negative, FaultyWords, FilesUnread, WriteFault}
+use Rattle.top_calls.specs.declared.outcome.Outcome.TheVariants.{Memory, Refused, NotBuilt}
+use Rattle.top_calls.specs.declared.outcome.Unbuilt.TheVariants as unbuilt
 
 -- the exit status
-abbrev pub code_of : Status → ℕ
+abbrev pub code_of : Outcome → ℕ
 code_of Done = 0
 code_of Negative = 1
 code_of FaultyWords = 2
-code_of TreeFault = 3
+code_of FilesUnread = 3
 code_of WriteFault = 4
 code_of Memory = 5
 code_of Refused = 6
-code_of NotBuilt = 11
+code_of (NotBuilt what) = 11
 
 -- the words are `get TARGET`, and the target is `/CONTROLLER/ACTION`
 abbrev pub IsFirstGet : List (List ℕ) → (controller action : List ℕ) → Type 0
 IsFirstGet words controller action = (target : List ℕ) × (words ≡ codes "get" ∷ target ∷ []) × IsTarget target
     × IsFirstTarget target controller action
+
+-- the words are `get TARGET` with any word as the target
+abbrev pub IsGet : List (List ℕ) → Type 0
+IsGet words = (target : List ℕ) × (words ≡ codes "get" ∷ target ∷ [])
 
 -- the command `tree`
 abbrev pub tree_words : List (List ℕ)
@@ -58,6 +63,7 @@ IsTreeRefused words files = (words ≡ tree_words) × ((refusal : Refusal) × Is
 abbrev pub IsFault : (code : ℕ) → Type 0
 IsFault code = (code ≡ 3) ⊎ ((code ≡ 4) ⊎ (code ≡ 5))
 
+-- what is written where something is not built yet
 abbrev pub not_built_line : List ℕ
 not_built_line = codes "not built yet" ++ 10 ∷ []
 
@@ -66,55 +72,51 @@ abbrev pub generation_of : List FileEntry → ℕ
 generation_of [] = 0
 generation_of (file ∷ files) = 1
 
-abbrev pub status_of : Reply → Status
-status_of reply = if reply.status == 200 then Done else Negative
+-- how a request with this reply ends
+abbrev pub outcome_of : Reply → Outcome
+outcome_of reply = if reply.status == 200 then Done else Negative
 
--- The output of `get /CONTROLLER/ACTION` on an application's files, and its status.
-pub data Answer (files : List FileEntry) (controller action : List ℕ) : List ℕ → Status → Type 0 where
-  other_application : IsOtherApplication files → Answer files controller action not_built_line NotBuilt
+-- The output of `get /CONTROLLER/ACTION` on an application's files, and how it ends.
+pub data GetAnswer (files : List FileEntry) (controller action : List ℕ) : List ℕ → Outcome → Type 0 where
+  too_large : ¬ (IsWithinLimits files) → GetAnswer files controller action not_built_line (NotBuilt unbuilt.Size)
+  other_file : (path : List ℕ) → Any (λ file. (file.path ≡ path) × ¬ (IsReadable file)) files
+      → GetAnswer files controller action not_built_line (NotBuilt (unbuilt.File path))
   replies : (reply : Reply) → IsWithinLimits files → All IsReadable files → FirstReply files controller action reply
-      → Answer files controller action (response_bytes reply (generation_of files)) (status_of reply)
+      → GetAnswer files controller action (response_bytes reply (generation_of files)) (outcome_of reply)
 
--- The output of `tree` on an application's files, and its status: its constants and their files, or one line that
--- says why
--- the application is refused.
-pub data TreeAnswer (files : List FileEntry) : List ℕ → Status → Type 0 where
+-- The output of `tree` on an application's files, and how it ends: its constants and their files, or one line that
+-- says why the application is refused.
+pub data TreeAnswer (files : List FileEntry) : List ℕ → Outcome → Type 0 where
   lists : (bytes : List ℕ) → IsTreeListing files bytes → TreeAnswer files bytes Done
   refuses : (refusal : Refusal) → IsRefused files refusal → TreeAnswer files (refusal_text refusal ++ 10 ∷ []) Refused
 
--- The output of a command line on an application's files, and its status.
-pub data Output (words : List (List ℕ)) (files : List FileEntry) : List ℕ → Status → Type 0 where
+-- The output of a command line on an application's files, and how it ends.
+pub data Output (words : List (List ℕ)) (files : List FileEntry) : List ℕ → Outcome → Type 0 where
   faulty_words : ¬ (IsCommandLine words) → Output words files [] FaultyWords
-  other_command : IsOtherCommand words → Output words files not_built_line NotBuilt
-  answers : (controller action output : List ℕ) (own : Status) → IsFirstGet words controller action →
-      Answer files controller action output own
+  other_command : IsOtherCommand words → ¬ (IsGet words) → Output words files not_built_line (NotBuilt unbuilt.Command)
+  other_target : IsOtherCommand words → IsGet words → Output words files not_built_line (NotBuilt unbuilt.Target)
+  answers : (controller action output : List ℕ) (own : Outcome) → IsFirstGet words controller action →
+      GetAnswer files controller action output own
       → Output words files output own
-  tells : (output : List ℕ) (own : Status) → words ≡ tree_words → TreeAnswer files output own →
+  tells : (output : List ℕ) (own : Outcome) → words ≡ tree_words → TreeAnswer files output own →
       Output words files output own
 
--- a status that an answer can have, once the files are read
-abbrev pub IsOfAnswer : Status → Type 0
-IsOfAnswer FaultyWords = ⊥
-IsOfAnswer TreeFault = ⊥
-IsOfAnswer status = ⊤
-
--- The output was written and the status is its own. Where a write failed, some of it was written, from its front and
--- not
--- all. After want of memory nothing was.
-abbrev pub Writes : (output : List ℕ) (own : Status) → Status → (before now : Option (List ℕ)) → Type 0
+-- The output was written and the outcome is its own. Where a write failed, a proper beginning of it was written. After
+-- want of memory nothing was.
+abbrev pub Writes : (output : List ℕ) (own : Outcome) → Outcome → (before now : Option (List ℕ)) → Type 0
 Writes output own Memory before now = now ≡ before
 Writes output own WriteFault before now = (n : ℕ) × (n < length output) × (now ≡ appended before (take n output))
-Writes output own status before now = (status ≡ own) × (now ≡ appended before output)
+Writes output own outcome before now = (outcome ≡ own) × (now ≡ appended before output)
 
 -- an output of which this holds was written so
-abbrev pub WritesOne : (List ℕ → Status → Type 0) → Status → (before now : Option (List ℕ)) → Type 0
+abbrev pub WritesOne : (List ℕ → Outcome → Type 0) → Outcome → (before now : Option (List ℕ)) → Type 0
 WritesOne Is Memory before now = now ≡ before
-WritesOne Is status before now = (output : List ℕ) × (own : Status) × Is output own
-    × Writes output own status before now
+WritesOne Is outcome before now = (output : List ℕ) × (own : Outcome) × Is output own
+    × Writes output own outcome before now
 
 -- What was written where the files were asked for: nothing where they could not be read, else their output.
-abbrev pub WritesOn : (Option (List FileEntry)) → (List FileEntry → List ℕ → Status → Type 0) → Status →
+abbrev pub WritesOn : (Option (List FileEntry)) → (List FileEntry → List ℕ → Outcome → Type 0) → Outcome →
     (before now : Option (List ℕ)) → Type 0
-WritesOn held Is TreeFault before now = now ≡ before
+WritesOn held Is FilesUnread before now = now ≡ before
 WritesOn held Is Memory before now = now ≡ before
-WritesOn held Is status before now = IfSome held (λ files. WritesOne (Is files) status before now)
+WritesOn held Is outcome before now = IfSome held (λ files. WritesOne (Is files) outcome before now)

@@ -1,7 +1,7 @@
 -- Which command lines there are, without the program's name.
 use Rattle.std.specs.Prelude.{◌≡◌, ◌≢◌, ℕ, ◌≤◌, List, [], ◌∷◌, Option, Some, None, All, codes, if◌then◌else◌, ⊤}
 use Rattle.std.specs.Fmt.{decimal}
-use Rattle.std.specs.Str.{IsUtf8, bytes_eq}
+use Rattle.std.specs.Str.{bytes_eq}
 use Rattle.top_calls.specs.declared.words.CommandName.{CommandName}
 use Rattle.top_calls.specs.declared.words.CommandName.TheVariants.{Get, Check, Tree, Replay, Demo, Serve}
 
@@ -13,8 +13,9 @@ IsTarget word = ((rest : List ℕ) × (word ≡ 47 ∷ rest)) × All (λ b. (33 
 abbrev pub IsNumber : (most : ℕ) → List ℕ → Type 0
 IsNumber most word = (n : ℕ) × (1 ≤ n) × (n ≤ most) × (word ≡ decimal n)
 
+-- an address is any word but the empty one
 abbrev pub IsAddress : List ℕ → Type 0
-IsAddress word = (word ≢ []) × IsUtf8 word
+IsAddress word = word ≢ []
 
 abbrev pub name_text : CommandName → List ℕ
 name_text Get = codes "get"

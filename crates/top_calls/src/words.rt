@@ -1,14 +1,13 @@
 //! Command lines.
-ghost use Rattle.std.specs.Prelude.{◌≡◌, ℕ, ◌^◌, ◌<◌, ◌≤◌, ◌↔◌, IsTrue, IfOk};
+ghost use Rattle.std.specs.Prelude.{◌≡◌, ℕ, ◌^◌, ◌<◌, ◌≤◌, ◌↔◌, IsTrue, IfOk, codes};
 ghost use Rattle.std.specs.Fmt.{decimal};
-ghost use Rattle.top_calls.specs.Words.{IsTarget, IsNumber, IsAddress, AreConnections, FitsGet, FitsCheck, FitsDemo};
-ghost use Rattle.top_calls.specs.Words.{FitsServe, Fits, name_of};
-ghost use Rattle.top_calls.specs.Command.{Finds};
+ghost use Rattle.top_calls.specs.Words.{IsTarget, name_text, name_of};
+ghost use Rattle.top_calls.specs.Command.{Finds, FindsNumber, FindsConnections, FindsArguments};
 
 use ruby_types::{Text, TextList};
 use std::alloc::{AllocError, Global};
 
-/// The commands, by their first word.
+/// The first words of command lines.
 #[derive(Clone, Copy, Debug, PartialEq, Eq)]
 pub enum CommandName {
     Get,
@@ -19,11 +18,23 @@ pub enum CommandName {
     Serve,
 }
 
-/// A command line: the command and its arguments, which fit it.
+/// A command with its arguments.
 #[derive(Clone, Copy)]
-pub struct CommandLine<'a> {
-    pub name: CommandName,
-    pub arguments: &'a [Text],
+pub enum Command<'a> {
+    /// A request for this target.
+    Get(&'a [u8]),
+    Check,
+    CheckEager,
+    Tree,
+    Replay,
+    /// A script that the program makes, of this number.
+    Demo(u32),
+    Serve {
+        address: &'a [u8],
+        workers: u32,
+        /// How many connections are served; with None there is no end.
+        connections: Option<u32>,
+    },
 }
 
 fn command_name(word: &[u8]) -> Option<CommandName>
@@ -52,107 +63,168 @@ fn is_target(word: &[u8]) -> bool
     word.starts_with(b"/") && word.iter().all(|byte| (33..=126).contains(byte))
 }
 
-fn is_within(number: u64, most: u64) -> bool
+fn is_within(number: u32, most: u32) -> bool
     ensures { IsTrue result ↔ ((1 ≤ number) × (number ≤ most)) }
 {
     (1..=most).contains(&number)
 }
 
 /// The number that the text is the decimal digits of, if it is any. Other texts may give a number too.
-fn parse_number(text: &str) -> Option<u64>
-    ensures { (n : ℕ) → n < 2 ^ 64 → text.now ≡ decimal n → result ≡ Some n }
+fn parse_number(text: &str) -> Option<u32>
+    ensures { (n : ℕ) → n < 2 ^ 32 → text.now ≡ decimal n → result ≡ Some n }
 {
-    match text.parse::<u64>() {
+    match text.parse::<u32>() {
         Ok(number) => Some(number),
         Err(_) => None,
     }
 }
 
-/// Whether the word is a number from 1 to `most`, in decimal digits without a leading 0.
-fn is_number(alloc: Global, word: &[u8], most: u64) -> Result<bool, AllocError>
-    ensures { IfOk result (λ answer. IsTrue answer ↔ IsNumber most word.now) }
+/// The number from 1 to `most` that the word is, in decimal digits without a leading 0.
+fn read_number(alloc: Global, word: &[u8], most: u32) -> Result<Option<u32>, AllocError>
+    ensures { IfOk result (λ number. FindsNumber most number word.now) }
 {
     let Ok(text) = std::str::from_utf8(word) else {
-        return Ok(false);
+        return Ok(None);
     };
     match parse_number(text) {
         Some(number) => {
             let plain = format!(in alloc; "{number}")?;
-            Ok(is_within(number, most) && plain.as_bytes() == word)
+            if is_within(number, most) && plain.as_bytes() == word {
+                Ok(Some(number))
+            } else {
+                Ok(None)
+            }
         }
-        None => Ok(false),
+        None => Ok(None),
     }
 }
 
-fn is_address(word: &[u8]) -> bool
-    ensures { IsTrue result ↔ IsAddress word.now }
+/// How many connections the words give: none, or one number of them.
+fn read_connections(alloc: Global, words: &[Text]) -> Result<Option<Option<u32>>, AllocError>
+    ensures { IfOk result (λ connections. FindsConnections connections words.now) }
 {
-    !word.is_empty() && std::str::from_utf8(word).is_ok()
-}
-
-/// Whether there are no arguments, or the word `eager`.
-fn fits_check(arguments: &[Text]) -> bool
-    ensures { IsTrue result ↔ FitsCheck arguments.now }
-{
-    match arguments {
-        [] => true,
-        [word] => word.as_bytes() == b"eager".as_slice(),
-        _ => false,
+    match words {
+        [] => Ok(Some(None)),
+        [number] => match read_number(alloc, number.as_bytes(), 1_000_000)? {
+            Some(number) => Ok(Some(Some(number))),
+            None => Ok(None),
+        },
+        _ => Ok(None),
     }
 }
 
-/// Whether there are no connections, or one number of them.
-fn are_connections(alloc: Global, arguments: &[Text]) -> Result<bool, AllocError>
-    ensures { IfOk result (λ answer. IsTrue answer ↔ AreConnections arguments.now) }
+/// `get TARGET`.
+fn read_get(arguments: &[Text]) -> Option<Command<'_>>
+    ensures { FindsArguments CommandName.Get result arguments.now }
 {
     match arguments {
-        [] => Ok(true),
-        [number] => Ok(is_number(alloc, number.as_bytes(), 1_000_000)?),
-        _ => Ok(false),
+        [target] => if is_target(target.as_bytes()) {
+            Some(Command::Get(target.as_bytes()))
+        } else {
+            None
+        },
+        _ => None,
     }
 }
 
-/// Whether the command has these arguments.
-fn fits(alloc: Global, name: CommandName, arguments: &[Text]) -> Result<bool, AllocError>
-    ensures { IfOk result (λ answer. IsTrue answer ↔ Fits name arguments.now) }
+fn is_eager(word: &[u8]) -> bool
+    ensures { IsTrue result ↔ (word.now ≡ codes "eager") }
 {
-    match name {
-        CommandName::Get => Ok(fits_get(arguments)),
-        CommandName::Check => Ok(fits_check(arguments)),
-        CommandName::Tree | CommandName::Replay => Ok(arguments.is_empty()),
-        CommandName::Demo => Ok(fits_demo(alloc, arguments)?),
-        CommandName::Serve => Ok(fits_serve(alloc, arguments)?),
-    }
+    word == b"eager".as_slice()
 }
 
-fn fits_get(arguments: &[Text]) -> bool
-    ensures { IsTrue result ↔ FitsGet arguments.now }
+/// `check` and `check eager`.
+fn read_check(arguments: &[Text]) -> Option<Command<'_>>
+    ensures { FindsArguments CommandName.Check result arguments.now }
 {
     match arguments {
-        [target] => is_target(target.as_bytes()),
-        _ => false,
+        [] => Some(Command::Check),
+        [word] => if is_eager(word.as_bytes()) {
+            Some(Command::CheckEager)
+        } else {
+            None
+        },
+        _ => None,
     }
 }
 
-fn fits_demo(alloc: Global, arguments: &[Text]) -> Result<bool, AllocError>
-    ensures { IfOk result (λ answer. IsTrue answer ↔ FitsDemo arguments.now) }
+/// `tree`.
+fn read_tree(arguments: &[Text]) -> Option<Command<'_>>
+    ensures { FindsArguments CommandName.Tree result arguments.now }
+{
+    if arguments.is_empty() {
+        Some(Command::Tree)
+    } else {
+        None
+    }
+}
+
+/// `replay`.
+fn read_replay(arguments: &[Text]) -> Option<Command<'_>>
+    ensures { FindsArguments CommandName.Replay result arguments.now }
+{
+    if arguments.is_empty() {
+        Some(Command::Replay)
+    } else {
+        None
+    }
+}
+
+/// `demo N`, N being at most 1,000.
+fn read_demo(alloc: Global, arguments: &[Text]) -> Result<Option<Command<'_>>, AllocError>
+    ensures { IfOk result (λ command. FindsArguments CommandName.Demo command arguments.now) }
 {
     match arguments {
-        [number] => Ok(is_number(alloc, number.as_bytes(), 1_000)?),
-        _ => Ok(false),
+        [number] => match read_number(alloc, number.as_bytes(), 1_000)? {
+            Some(number) => Ok(Some(Command::Demo(number))),
+            None => Ok(None),
+        },
+        _ => Ok(None),
     }
 }
 
-fn fits_serve(alloc: Global, arguments: &[Text]) -> Result<bool, AllocError>
-    ensures { IfOk result (λ answer. IsTrue answer ↔ FitsServe arguments.now) }
+/// `serve ADDRESS WORKERS` and `serve ADDRESS WORKERS CONNECTIONS`, with at most 16 workers.
+fn read_serve(alloc: Global, arguments: &[Text]) -> Result<Option<Command<'_>>, AllocError>
+    ensures { IfOk result (λ command. FindsArguments CommandName.Serve command arguments.now) }
 {
     match arguments {
         [address, workers, connections @ ..] => {
-            let workers = is_number(alloc, workers.as_bytes(), 16)?;
-            let connections = are_connections(alloc, connections)?;
-            Ok(is_address(address.as_bytes()) && workers && connections)
+            let Some(workers) = read_number(alloc, workers.as_bytes(), 16)? else {
+                return Ok(None);
+            };
+            let Some(connections) = read_connections(alloc, connections)? else {
+                return Ok(None);
+            };
+            let address = address.as_bytes();
+            if address.is_empty() {
+                Ok(None)
+            } else {
+                Ok(Some(Command::Serve {
+                    address,
+                    workers,
+                    connections,
+                }))
+            }
         }
-        _ => Ok(false),
+        _ => Ok(None),
+    }
+}
+
+/// The command of this name with these arguments.
+fn read_arguments(
+    alloc: Global,
+    name: CommandName,
+    arguments: &[Text],
+) -> Result<Option<Command<'_>>, AllocError>
+    ensures { IfOk result (λ command. FindsArguments name command arguments.now) }
+{
+    match name {
+        CommandName::Get => Ok(read_get(arguments)),
+        CommandName::Check => Ok(read_check(arguments)),
+        CommandName::Tree => Ok(read_tree(arguments)),
+        CommandName::Replay => Ok(read_replay(arguments)),
+        CommandName::Demo => read_demo(alloc, arguments),
+        CommandName::Serve => read_serve(alloc, arguments),
     }
 }
 
@@ -160,18 +232,14 @@ fn fits_serve(alloc: Global, arguments: &[Text]) -> Result<bool, AllocError>
 pub fn parse_words<'a>(
     alloc: Global,
     words: &'a TextList,
-) -> Result<Option<CommandLine<'a>>, AllocError>
+) -> Result<Option<Command<'a>>, AllocError>
     ensures { IfOk result (λ found. Finds found words.now) }
 {
     let Some((first, arguments)) = words.as_slice().split_first() else {
         return Ok(None);
     };
     match command_name(first.as_bytes()) {
-        Some(name) => if fits(alloc, name, arguments)? {
-            Ok(Some(CommandLine { name, arguments }))
-        } else {
-            Ok(None)
-        },
+        Some(name) => read_arguments(alloc, name, arguments),
         None => Ok(None),
     }
 }

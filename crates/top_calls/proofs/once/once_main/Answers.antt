@@ -5,24 +5,25 @@ use Rattle.top_calls.proofs.once.once_main.Goals as goal
 
 pub returns-clause-not_built : goal.returns-clause-not_built
 returns-clause-not_built g c =
-    let P : ℕ → Type 0 = λ code. IfSome (g.T.Tree.holds c.run.new.tree) (λ files. code ≡ 11 →
+    let P : ℕ → Type 0 = λ code. IfSome (g.T.Tree.holds c.run_once.new.tree) (λ files. code ≡ 11 →
     IsNotBuilt c.args.words.now files) in
-    subst P (sym c.code.ensures) (not_built_is c.args.words.now _ c.run.result _ _ c.run.ensures.written)
+    subst P (sym c.code.ensures) (not_built_is c.args.words.now _ c.run_once.result _ _ c.run_once.ensures.written)
 
 pub returns-clause-not_built_only : goal.returns-clause-not_built_only
 returns-clause-not_built_only g c =
-    let P : ℕ → Type 0 = λ code. IfSome (g.T.Tree.holds c.run.new.tree) (λ files. IsNotBuilt c.args.words.now files →
+    let P : ℕ → Type 0 = λ code. IfSome (g.T.Tree.holds c.run_once.new.tree)
+    (λ files. IsNotBuilt c.args.words.now files →
     (code ≡ 11) ⊎ IsFault code) in
-    subst P (sym c.code.ensures) (is_not_built c.args.words.now _ c.run.result _ _ c.run.ensures.written)
+    subst P (sym c.code.ensures) (is_not_built c.args.words.now _ c.run_once.result _ _ c.run_once.ensures.written)
 
 pub returns-clause-refused : goal.returns-clause-refused
 returns-clause-refused g c =
-    let P : ℕ → Type 0 = λ code. IfSome (g.T.Tree.holds c.run.new.tree) (λ files. code ≡ 6 →
+    let P : ℕ → Type 0 = λ code. IfSome (g.T.Tree.holds c.run_once.new.tree) (λ files. code ≡ 6 →
     IsTreeRefused c.args.words.now files) in
-    subst P (sym c.code.ensures) (refused_is c.args.words.now _ c.run.result _ _ c.run.ensures.written)
+    subst P (sym c.code.ensures) (refused_is c.args.words.now _ c.run_once.result _ _ c.run_once.ensures.written)
 
 pub returns-clause-refused_only : goal.returns-clause-refused_only
 returns-clause-refused_only g c =
-    let P : ℕ → Type 0 = λ code. IfSome (g.T.Tree.holds c.run.new.tree)
+    let P : ℕ → Type 0 = λ code. IfSome (g.T.Tree.holds c.run_once.new.tree)
     (λ files. IsTreeRefused c.args.words.now files → (code ≡ 6) ⊎ IsFault code) in
-    subst P (sym c.code.ensures) (is_refused c.args.words.now _ c.run.result _ _ c.run.ensures.written)
+    subst P (sym c.code.ensures) (is_refused c.args.words.now _ c.run_once.result _ _ c.run_once.ensures.written)

@@ -1,0 +1,18 @@
+use Rattle.std.proofs.Common.{List, ℕ, sym, subst}
+use Rattle.tree_command.specs.Tree.{IsTreeFault}
+use Rattle.tree_command.specs.declared.fault.TreeFault.{TreeFault}
+use Rattle.tree_command.specs.declared.fault.TreeFault.TheVariants as fault
+use Rattle.top_calls.specs.Output.{TreeAnswer, lists, refuses}
+use Rattle.top_calls.specs.declared.outcome.Outcome.TheVariants.{Refused}
+use Rattle.top_calls.proofs.answer.answer_listing.Goals as goal
+
+pub returns-in-Ok : goal.returns-in-Ok
+returns-in-Ok c = lists c.in-Ok.bytes.items c.in-Ok.ensures.listing
+
+pub returns-in_ok-bytes-in-Err-Refused : goal.returns-in_ok-bytes-in-Err-Refused
+returns-in_ok-bytes-in-Err-Refused c =
+    let P : TreeFault → Type 0 = IsTreeFault c.args.snapshot.now.files in
+    let refused : P (fault.Refused c.in-Err-Refused.refusal) =
+    subst P c.in-Err-Refused.field-0-is c.in-Err-Refused.ensures.fault in
+    let Q : List ℕ → Type 0 = λ bytes. TreeAnswer c.args.snapshot.now.files bytes Refused in
+    subst Q (sym c.in_ok-bytes-in-Err-Refused.ensures) (refuses c.in-Err-Refused.refusal refused)
