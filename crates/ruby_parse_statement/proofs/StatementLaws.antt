@@ -17,7 +17,10 @@ use Rattle.ruby_parse_cursor.specs.declared.fault.Fault.TheVariants as f
 use Rattle.ruby_parse_steps.specs.Gives.{Gives, GivesRule}
 use Rattle.ruby_parse_steps.proofs.Descent.{g_give, g_chosen, g_skip, g_then, g_fails, g_deep}
 use Rattle.ruby_parse_statement.specs.Arms.{arm_then}
-use Rattle.ruby_parse_statement.proofs.Steps.{skips, rule_then, rule_fails, picked, apart}
+use Rattle.ruby_parse_statement.proofs.Steps.{skips, rule_then, rule_fails, picked, apart, unmade}
+use Rattle.ruby_parse_statement.specs.Answers.{known_as, conditioned, GivesCondition}
+use Rattle.ruby_types.specs.declared.tree.Expr.{Expr}
+use Rattle.std.specs.Prelude.{IfOk, IfErr, Option}
 
 -- ---- a block `if` or `unless`
 module _ (here : Around) where
@@ -109,6 +112,18 @@ module _ (here : Around) where
       picked (statement here) (call (simple_statement here) λ t. only (condition_behind here.levels t)) ws rest
       (Err e) (simple_chosen ws p)
       (rule_fails {v = a_statement} (simple_statement here) (λ t. only (condition_behind here.levels t)) e ws rest g)
+
+  -- A simple statement, with what was made of it and of the condition behind it.
+  pub conditioned_reads : (s : Stmt) (o : Option Expr) (names : List Name) (made : Result Stmt Fault)
+      (ws mid rest : List Word) → (next_is is_if (head ws) || next_is is_unless (head ws)) ≡ false →
+      GivesRule (simple_statement here) ws (Ok (known s names)) mid →
+      GivesCondition here.levels names mid (Ok o) rest →
+      IfOk made (λ z. z ≡ conditioned s o) → IfErr made (λ e. e ≡ f.Memory) →
+      GivesRule (statement here) ws (known_as names made) rest
+  conditioned_reads s o names (Ok z) ws mid rest p g h ok fault =
+      subst (λ (y : Stmt). GivesRule (statement here) ws (Ok (known y names)) rest) (sym ok)
+      (simple_reads s names ws mid rest (Ok (known (conditioned s o) names)) p g (h s))
+  conditioned_reads s o names (Err e) ws mid rest p g h ok fault = unmade (only (statement here)) ws rest e fault
 
 -- ---- statements
 pub begins_statement : (ws : List Word) → next_is starts_statement (head ws) ≡ statement_terminal (head_terminal ws)
