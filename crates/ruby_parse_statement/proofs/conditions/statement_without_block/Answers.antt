@@ -7,7 +7,8 @@ use Rattle.ruby_parse_statement.proofs.conditions.statement_without_block.Goals 
 pub returns-in_err-statement-clause-reads : goal.returns-in_err-statement-clause-reads
 returns-in_err-statement-clause-reads c =
     let p = err_from_is_err_and c.from_residual.result c.from_residual.ensures.1 in
-    rw (p.1, p.2) (simple_breaks (around_view c.args.body c.args.locals.now) _ c.args.cursor.now c.simple_statement.new.cursor
+    rw (p.1, p.2) (simple_breaks (around_view c.args.body c.args.locals.now) _ c.args.cursor.now
+    c.simple_statement.new.cursor
     c.requires c.in_err-statement.ensures.reads)
 
 pub returns-in_err-condition-clause-reads : goal.returns-in_err-condition-clause-reads
