@@ -7,12 +7,14 @@ use Rattle.std.proofs.lemmas.Cmp.{nat_list_cmp_total}
 use Rattle.std.proofs.lemmas.Map.Lookups.{exact_bytes}
 use Rattle.case_table.specs.Rows.{IsLess, Rising, RisingTo, HasNone}
 
+-- What is at most a number is less than it, or it.
 pub le_cases : (n m : ℕ) → n ≤ m → (n < m) ⊎ (n ≡ m)
 le_cases zero zero h = inr refl
 le_cases zero (suc m) h = inl (omega arith)
 le_cases (suc n) zero h = absurd (omega arith)
 le_cases (suc n) (suc m) h = elim (le_cases n m (omega arith)) [ inl a ↦ inl (omega arith) | inr e ↦ inr (ap suc e) ]
 
+-- What a function gives of the element at a place.
 pub get_map : {A B : Type 0} (f : A → B) (xs : List A) (i : ℕ) (x : A) → i < length xs → x ≡ get_or xs i x →
     slice_get (map f xs) i ≡ Some (f x)
 get_map f [] i x h e = absurd (omega arith)
@@ -28,6 +30,7 @@ turned a b h = let e = nat_list_cmp_total.antisymm b a in e ∙ ap ordering_reve
 back : (a b : List ℕ) → slice_cmp nat_cmp b a ≡ Less → slice_cmp nat_cmp a b ≡ Greater
 back a b h = let e = nat_list_cmp_total.antisymm a b in e ∙ ap ordering_reverse h
 
+-- Rows up to one whose name is less have lesser names.
 pub below_more : (ps : List (List ℕ × ℕ)) (m : ℕ) (q : List ℕ × ℕ) (name : List ℕ) → Rising ps →
     slice_get ps m ≡ Some q → slice_cmp nat_cmp q.0 name ≡ Less → (i : ℕ) (r : List ℕ × ℕ) → i < m + 1 →
     slice_get ps i ≡ Some r → slice_cmp nat_cmp r.0 name ≡ Less
@@ -38,6 +41,7 @@ below_more ps m q name rise at less i r h g =
           same_row (slice_get ps m) q r at g' in subst (λ (x : List ℕ × ℕ). slice_cmp nat_cmp x.0 name ≡ Less) z less
     ]
 
+-- Rows from one whose name is greater on have greater names.
 pub above_more : (ps : List (List ℕ × ℕ)) (m : ℕ) (q : List ℕ × ℕ) (name : List ℕ) → Rising ps →
     slice_get ps m ≡ Some q → slice_cmp nat_cmp q.0 name ≡ Greater → (i : ℕ) (r : List ℕ × ℕ) → m ≤ i →
     slice_get ps i ≡ Some r → slice_cmp nat_cmp r.0 name ≡ Greater
@@ -67,6 +71,7 @@ below_row ps n m p q e rise hp less i r h g =
           same_row (slice_get ps m) p r hp g' in subst (λ (x : List ℕ × ℕ). IsLess x.0 q.0) z less
     ]
 
+-- Where the rows before a place are less and all others greater, none has the name.
 pub none_left : (ps : List (List ℕ × ℕ)) (n : ℕ) (name : List ℕ) →
     ((i : ℕ) (r : List ℕ × ℕ) → i < n → slice_get ps i ≡ Some r → slice_cmp nat_cmp r.0 name ≡ Less) →
     ((i : ℕ) (r : List ℕ × ℕ) → n ≤ i → slice_get ps i ≡ Some r → slice_cmp nat_cmp r.0 name ≡ Greater) →
@@ -77,6 +82,7 @@ none_left ps n name below above i r g e =
       | inr a ↦ no_less name (let h : slice_cmp nat_cmp name r.0 ≡ Less = turned r.0 name (above i r a g) in rw e at h)
     ]
 
+-- Names that compare as equal are one.
 pub equal_is : (a b : List ℕ) → slice_cmp nat_cmp a b ≡ Equal → a ≡ b
 equal_is a b h = exact_bytes a b h
 

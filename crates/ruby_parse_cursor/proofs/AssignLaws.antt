@@ -1,5 +1,6 @@
 -- Whether `=` is at hand, by its kind alone.
-use Rattle.std.proofs.Common.{◌≡◌, ℕ, ◌<◌, ◌≤◌, Bool, false, ◌==◌, List, [], ◌∷◌, length, drop, take, ◌-◌, refl, sym, ◌∙◌, ap}
+use Rattle.std.proofs.Common.{◌≡◌, ℕ, ◌<◌, ◌≤◌, Bool, false, ◌==◌, List, [], ◌∷◌, length, drop, take, ◌-◌, refl, sym}
+use Rattle.std.proofs.Common.{◌∙◌, ap}
 use Rattle.std.proofs.Common.{arith, get_or}
 use Rattle.ruby_token.specs.Spans.{text_of}
 use Rattle.std.proofs.lemmas.Bool.Decides.{nat_tests}

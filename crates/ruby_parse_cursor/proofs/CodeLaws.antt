@@ -1,4 +1,4 @@
--- The code of the word at hand, and its sign.
+-- The code of the word at hand, and its terminal.
 use Rattle.std.proofs.Common.{◌≡◌, ℕ, Bool, true, false, ◌&&◌, ◌==◌, List, [], ◌∷◌, Option, Some, None, refl, sym}
 use Rattle.std.proofs.Common.{subst, ap, ◌∙◌, arith, ⊎_elim}
 use Rattle.std.specs.Prelude.{nat_le}
@@ -25,7 +25,7 @@ alike n = grind (arith, nat_tests)
 same : (m n : ℕ) → (m == n) ≡ true → m ≡ n
 same m n h = grind (arith, nat_tests)
 
--- a word with a code has it as its sign
+-- a word with a code has it as its terminal
 pub code_is : (n c : ℕ) → code_view n ≡ Some c → n ≡ c
 code_is n c e =
     ⊎_elim

@@ -1,4 +1,4 @@
--- The code that the table gives a name is the name's sign.
+-- The code that the table gives a name is the name's terminal.
 use Rattle.std.proofs.Common.{◌≡◌, ℕ, zero, suc, Bool, true, ◌&&◌, ◌==◌, List, [], ◌∷◌, Option, Some, None, slice_get}
 use Rattle.std.proofs.Common.{refl, sym, subst, ◌∙◌, arith}
 use Rattle.std.proofs.lemmas.Bool.{and_parts, cases_Bool, cond-false}
@@ -37,6 +37,7 @@ found all (x ∷ rows) (suc i) r h e = found all rows i r (and_parts _ _ h).1 e
 words_are_found : are_found word_rows word_rows ≡ true
 words_are_found = refl
 
+-- The code that a row of the table gives is the terminal of the name.
 pub has_code : (rows : List Row) (name : List ℕ) (code : ℕ) → rows ≡ word_rows → HasCode rows name code →
     code ≡ name_sign name
 has_code rows name code e h =
@@ -52,6 +53,7 @@ none_in (x ∷ rows) name h =
     (λ n. cond-false (bytes_eq x.0 name) x.1 (code_in rows name) n ∙ none_in rows name (λ i r e. h (suc i) r e))
     (cases_Bool (bytes_eq x.0 name))
 
+-- A name that no row has is no word.
 pub has_none : (rows : List Row) (name : List ℕ) → rows ≡ word_rows → HasNone rows name → 0 ≡ name_sign name
 has_none rows name e h = sym (none_in word_rows name (subst (λ (l : List Row). HasNone l name) e h))
 

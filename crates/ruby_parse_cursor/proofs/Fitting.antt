@@ -7,6 +7,7 @@ use Rattle.ruby_grammar.specs.Choices.{next_is}
 use Rattle.descent.specs.Reading.{head}
 use Rattle.ruby_grammar.specs.Numbers.{NumbersFit}
 
+-- A number at hand is in range.
 pub first_fits : (l ws : List Word) (w : Word) → l ≡ w ∷ ws → NumbersFit l → next_is is_int (head l) ≡ true →
     is_in_range w.text ≡ true
 first_fits l ws w e h is =

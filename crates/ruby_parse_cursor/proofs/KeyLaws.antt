@@ -49,9 +49,11 @@ module _ (s n : sorted.BTreeSet (Vec ℕ)) (bs : List ℕ)
       ∙ or_cond (bytes_eq bs cs) (has_key s cs))
       (cases_Bool (bytes_eq bs cs))
 
+  -- A set with a name more knows that name and those before.
   pub known_more : (names : List (List ℕ)) → IsKnown s names → IsKnown n (bs ∷ names)
   known_more names are cs = more cs ∙ ap (λ b. bytes_eq bs cs || b) (are cs)
 
+-- A name pushed last comes first.
 pub latest_more : {A : Type 0} (f : A → List ℕ) (xs : List A) (x : A) →
     latest_first f (xs ++ x ∷ []) ≡ f x ∷ latest_first f xs
 latest_more f [] x = refl

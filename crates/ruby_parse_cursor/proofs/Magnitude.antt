@@ -7,6 +7,7 @@ by_test : (P : ℕ → Type 0) (b : Bool) (x y : ℕ) → P x → P y → P (con
 by_test P true x y p q = p
 by_test P false x y p q = q
 
+-- The value of digits is at least what was read so far.
 pub grows : (n : ℕ) (bs : List ℕ) → n ≤ magnitude_from n bs
 grows n [] = omega arith
 grows n (b ∷ bs) =

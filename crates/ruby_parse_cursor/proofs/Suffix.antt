@@ -12,6 +12,7 @@ at [] b (suc n) e = absurd (omega (arith, e))
 at (c ∷ cs) b zero e = absurd (omega (arith, e))
 at (c ∷ cs) b (suc n) e = at cs c n (omega (arith, e))
 
+-- A name has a suffix by its last byte.
 pub last_byte : (xs : List ℕ) → 1 ≤ length xs → ends_in_suffix xs ≡ is_suffix (get_or xs (length xs - 1) 0)
 last_byte [] h = absurd (omega (arith, h))
 last_byte (b ∷ bs) h = at bs b (length (b ∷ bs) - 1) (omega arith)
@@ -19,6 +20,7 @@ last_byte (b ∷ bs) h = at bs b (length (b ∷ bs) - 1) (omega arith)
 same : (m n : ℕ) → (m == n) ≡ true → m ≡ n
 same m n h = grind (arith, nat_tests)
 
+-- A last byte that is `?` is a suffix.
 pub asks : (xs : List ℕ) → 1 ≤ length xs → get_or xs (length xs - 1) 0 ≡ 63 → (get_or xs (length xs - 1) 0 == 63)
     ≡ ends_in_suffix xs
 asks xs h e = subst (λ x. (x == 63) ≡ is_suffix x) (sym e) refl ∙ sym (last_byte xs h)
@@ -30,6 +32,7 @@ warns g n =
     (λ e. ap (λ b. b || (g == 33)) (sym e))
     (cases_Bool (g == 63))
 
+-- Another last byte is a suffix where it is `!`.
 pub warns_or_not : (xs : List ℕ) → 1 ≤ length xs → (get_or xs (length xs - 1) 0 ≡ 63 → ⊥) →
     (get_or xs (length xs - 1) 0 == 33) ≡ ends_in_suffix xs
 warns_or_not xs h n = warns (get_or xs (length xs - 1) 0) n ∙ sym (last_byte xs h)

@@ -1,4 +1,4 @@
--- The words of the grammar, as the reader has them.
+-- The words of the grammar, as the parser has them.
 use Rattle.std.specs.Prelude.{ℕ, Bool, ◌==◌, ◌&&◌, ◌||◌, nat_le, if◌then◌else◌, List, [], ◌∷◌, Option, Some, None}
 use Rattle.ruby_parse_cursor.specs.declared.word.Word.{Word as Held}
 use Rattle.ruby_grammar.specs.Words.{Word}
@@ -8,16 +8,16 @@ use Rattle.ruby_grammar.specs.Signs.{sign}
 abbrev pub word_view : Held → Word
 word_view w = record { kind = w.kind; text = w.text.now; tight = w.tight; at = w.at }
 
--- the sign of the first word, and 98 where none is left
+-- the terminal of the first word, and 98 where none is left
 abbrev pub head_terminal : List Word → ℕ
 head_terminal [] = 98
 head_terminal (w ∷ ws) = sign w
 
--- the code of a reserved or a left-out word, by its sign
+-- the code of a reserved or a left-out word, by its terminal
 abbrev pub code_view : ℕ → Option ℕ
 code_view n = if nat_le 1 n && nat_le n 47 then Some n else None
 
--- left-out words and operators, and what expressions and statements begin with, by their signs
+-- left-out words and operators, and what expressions and statements begin with, by their terminals
 abbrev pub left_out_terminal : ℕ → Bool
 left_out_terminal n = (nat_le 18 n && nat_le n 47) || (n == 99)
 

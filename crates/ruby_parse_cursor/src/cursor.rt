@@ -1,6 +1,7 @@
 //! The cursor of the parser: the words of a file that are left to read.
 
-ghost use Rattle.std.specs.Prelude.{◌≡◌, ◌∷◌, ◌&&◌, ◌==◌, ◌<◌, [], drop, true, false, MatchOption, IfOk, OnOk, OnErr, List, ℕ};
+ghost use Rattle.std.specs.Prelude.{◌≡◌, ◌∷◌, ◌&&◌, ◌==◌, ◌<◌, [], drop, true, false, MatchOption, IfOk, OnOk, OnErr};
+ghost use Rattle.std.specs.Prelude.{List, ℕ};
 ghost use Rattle.std.specs.Prelude.{IfErr};
 ghost use Rattle.ruby_words.specs.Words.{word_rows};
 ghost use Rattle.ruby_grammar.specs.Words as spec;

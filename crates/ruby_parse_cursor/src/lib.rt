@@ -1,4 +1,4 @@
-//! What a reader of the grammar stands on: the words that are left, what single words stand for, and the
+//! What the parser stands on: the words that are left, what single words stand for, and the
 //! variables of a method.
 #![tactic(auto)]
 

@@ -32,7 +32,7 @@ either : (a b : Bool) → (a || b) ≡ true → (a ≡ true) ⊎ (b ≡ true)
 either true b e = inl refl
 either false b e = inr e
 
--- the first word's sign, where it passes
+-- the first word's terminal, where it passes
 pub sign_is : (n : ℕ) (ws : List Word) → next_is (is n) (head ws) ≡ true → head_terminal ws ≡ n
 sign_is n [] p = absurd (cc)
 sign_is n (w ∷ ws) p = is_same (sign w) n p
@@ -48,6 +48,7 @@ left_paren n h p q =
     ⊎_elim (λ ab. ⊎_elim (λ a. is_same n 91 a) (λ b. absurd (cc)) (either (n == 91) (n == 93) ab)) (λ c. absurd (cc))
     (either ((n == 91) || (n == 93)) (n == 95) h)
 
+-- A bracket that is neither `[` nor `{` is `(`.
 pub is_paren : (ws : List Word) → opens_bracket (head_terminal ws) ≡ true → next_is is_open_bracket (head ws) ≡ false →
     next_is is_open_brace (head ws) ≡ false → head_terminal ws ≡ 91
 is_paren ws h p q = left_paren (head_terminal ws) h (other_sign 93 ws refl p) (other_sign 95 ws refl q)
@@ -65,16 +66,20 @@ module _ (here : Scope) (ws : List Word) where
   deep_group l s = g_deep {s = an_expression} (primary here) ws (chosen_at here ws 91 _ s refl refl
       ∙ ap (λ n. deepen n (group_from here)) l)
 
-  pub bracket_deep : opens_bracket (head_terminal ws) ≡ true → here.levels ≡ 0 → GivesRule (primary here) ws (Err f.Deep) ws
+  -- No level is left for a bracket.
+  pub bracket_deep : opens_bracket (head_terminal ws) ≡ true → here.levels ≡ 0 →
+      GivesRule (primary here) ws (Err f.Deep) ws
   bracket_deep h l =
       ⊎_elim (λ ab. ⊎_elim (λ a. deep_group l (is_same (head_terminal ws) 91 a))
-      (λ b. deep_array l (is_same (head_terminal ws) 93 b)) (either (head_terminal ws == 91) (head_terminal ws == 93) ab))
+      (λ b. deep_array l (is_same (head_terminal ws) 93 b))
+      (either (head_terminal ws == 91) (head_terminal ws == 93) ab))
       (λ c. deep_hash l (is_same (head_terminal ws) 95 c))
       (either ((head_terminal ws == 91) || (head_terminal ws == 93)) (head_terminal ws == 95) h)
 
 module _ (here inner : Scope) (n : ℕ) (ws mid : List Word) (l : here.levels ≡ suc n) (i : inner ≡ at_levels here n)
     (d : mid ≡ drop 1 ws) where
   -- ---- `[..]`
+  -- A list in brackets.
   pub array_reads : (xs : List Expr) (behind rest : List Word) → next_is is_open_bracket (head ws) ≡ true →
       GivesRule (members inner []) mid (Ok xs) behind → next_is is_close_bracket (head behind) ≡ true →
       rest ≡ drop 1 behind →
@@ -85,6 +90,7 @@ module _ (here inner : Scope) (n : ℕ) (ws mid : List Word) (l : here.levels �
       (chosen_at here ws 93 _ (sign_is 93 ws p) refl refl ∙ ap (λ m. deepen m (array_from here)) l) p d i xs behind
       rest rest (Ok (expr.Array xs)) a c e (g_give {s = an_expression} (expr.Array xs) rest)
 
+  -- A fault in a list.
   pub array_breaks : (e : Fault) (rest : List Word) → next_is is_open_bracket (head ws) ≡ true →
       GivesRule (members inner []) mid (Err e) rest → GivesRule (primary here) ws (Err e) rest
   array_breaks e rest p a =
@@ -92,6 +98,7 @@ module _ (here inner : Scope) (n : ℕ) (ws mid : List Word) (l : here.levels �
       (λ xs. give (expr.Array xs)) is_open_bracket is_close_bracket here inner n ws mid
       (chosen_at here ws 93 _ (sign_is 93 ws p) refl refl ∙ ap (λ m. deepen m (array_from here)) l) p d i e rest a
 
+  -- The `]` of a list lacks.
   pub array_lacks_close : (xs : List Expr) (behind : List Word) → next_is is_open_bracket (head ws) ≡ true →
       GivesRule (members inner []) mid (Ok xs) behind → next_is is_close_bracket (head behind) ≡ false →
       GivesRule (primary here) ws (Err f.Unexpected) behind
@@ -101,6 +108,7 @@ module _ (here inner : Scope) (n : ℕ) (ws mid : List Word) (l : here.levels �
       (chosen_at here ws 93 _ (sign_is 93 ws p) refl refl ∙ ap (λ m. deepen m (array_from here)) l) p d i xs behind a c
 
   -- ---- `{..}`
+  -- Pairs in braces.
   pub hash_reads : (ps : List (Expr × Expr)) (behind rest : List Word) → next_is is_open_brace (head ws) ≡ true →
       GivesRule (pairs inner []) mid (Ok ps) behind → next_is is_close_brace (head behind) ≡ true →
       rest ≡ drop 1 behind →
@@ -111,6 +119,7 @@ module _ (here inner : Scope) (n : ℕ) (ws mid : List Word) (l : here.levels �
       (chosen_at here ws 95 _ (sign_is 95 ws p) refl refl ∙ ap (λ m. deepen m (hash_from here)) l) p d i ps behind
       rest rest (Ok (expr.Hash ps)) a c e (g_give {s = an_expression} (expr.Hash ps) rest)
 
+  -- A fault in pairs.
   pub hash_breaks : (e : Fault) (rest : List Word) → next_is is_open_brace (head ws) ≡ true →
       GivesRule (pairs inner []) mid (Err e) rest → GivesRule (primary here) ws (Err e) rest
   hash_breaks e rest p a =
@@ -118,6 +127,7 @@ module _ (here inner : Scope) (n : ℕ) (ws mid : List Word) (l : here.levels �
       (λ ps. give (expr.Hash ps)) is_open_brace is_close_brace here inner n ws mid
       (chosen_at here ws 95 _ (sign_is 95 ws p) refl refl ∙ ap (λ m. deepen m (hash_from here)) l) p d i e rest a
 
+  -- The `}` of pairs lacks.
   pub hash_lacks_close : (ps : List (Expr × Expr)) (behind : List Word) → next_is is_open_brace (head ws) ≡ true →
       GivesRule (pairs inner []) mid (Ok ps) behind → next_is is_close_brace (head behind) ≡ false →
       GivesRule (primary here) ws (Err f.Unexpected) behind
@@ -127,6 +137,7 @@ module _ (here inner : Scope) (n : ℕ) (ws mid : List Word) (l : here.levels �
       (chosen_at here ws 95 _ (sign_is 95 ws p) refl refl ∙ ap (λ m. deepen m (hash_from here)) l) p d i ps behind a c
 
   -- ---- `(..)`
+  -- An expression in parentheses.
   pub group_reads : (x : Expr) (behind rest : List Word) → head_terminal ws ≡ 91 →
       GivesRule (expression inner) mid (Ok x) behind → next_is is_close_paren (head behind) ≡ true →
       rest ≡ drop 1 behind →
@@ -137,6 +148,7 @@ module _ (here inner : Scope) (n : ℕ) (ws mid : List Word) (l : here.levels �
       (chosen_at here ws 91 _ s refl refl ∙ ap (λ m. deepen m (group_from here)) l) (sees ws 91 s refl) d i x behind
       rest rest (Ok x) a c e (g_give {s = an_expression} x rest)
 
+  -- A fault in parentheses.
   pub group_breaks : (e : Fault) (rest : List Word) → head_terminal ws ≡ 91 →
       GivesRule (expression inner) mid (Err e) rest → GivesRule (primary here) ws (Err e) rest
   group_breaks e rest s a =
@@ -144,6 +156,7 @@ module _ (here inner : Scope) (n : ℕ) (ws mid : List Word) (l : here.levels �
       (λ x. give x) is_open_paren is_close_paren here inner n ws mid
       (chosen_at here ws 91 _ s refl refl ∙ ap (λ m. deepen m (group_from here)) l) (sees ws 91 s refl) d i e rest a
 
+  -- The `)` of an expression lacks.
   pub group_lacks_close : (x : Expr) (behind : List Word) → head_terminal ws ≡ 91 →
       GivesRule (expression inner) mid (Ok x) behind → next_is is_close_paren (head behind) ≡ false →
       GivesRule (primary here) ws (Err f.Unexpected) behind
@@ -163,6 +176,7 @@ module _ (here : Scope) (n : ℕ) (ws : List Word) (s : head_terminal ws ≡ n) 
   alone_chosen = ⊎_elim (λ e. chosen_at here ws 51 _ (s ∙ e) refl refl)
       (λ e. chosen_at here ws 86 _ (s ∙ e) refl refl) k
 
+  -- A constant as a primary.
   pub constant_reads : (c : ConstRef) (rest : List Word) → GivesConstant ws (Ok c) rest →
       GivesRule (primary here) ws (Ok (expr.Const c)) rest
   constant_reads c rest g =
@@ -170,6 +184,7 @@ module _ (here : Scope) (n : ℕ) (ws : List Word) (s : head_terminal ws ≡ n) 
       (g_then {s = an_expression} {v = a_constant} (constant None) _ c ws rest rest (Ok (expr.Const c))
       (constant_gives ws rest (Ok c) g) (g_give {s = an_expression} (expr.Const c) rest))
 
+  -- A fault in a constant.
   pub constant_breaks : (e : Fault) (rest : List Word) → GivesConstant ws (Err e) rest →
       GivesRule (primary here) ws (Err e) rest
   constant_breaks e rest g = g_chosen {s = an_expression} (primary here) constant_alone ws rest (Err e) alone_chosen
@@ -199,6 +214,7 @@ moves_top w ws s =
 some_word : {A : Type 0} (n : ℕ) → 98 ≡ n → (n ≡ 51) ⊎ (n ≡ 86) → A
 some_word n e k = ⊎_elim (λ a. absurd (omega arith)) (λ b. absurd (omega arith)) k
 
+-- A constant takes words.
 pub constant_taken : (n : ℕ) (ws rest : List Word) (c : ConstRef) → head_terminal ws ≡ n → (n ≡ 51) ⊎ (n ≡ 86) →
     GivesConstant ws (Ok c) rest → length rest < length ws
 constant_taken n [] rest c s k g = some_word n s k

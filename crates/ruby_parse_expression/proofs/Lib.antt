@@ -6,3 +6,4 @@ pub mod BracketLaws
 pub mod OperandLaws
 pub mod Failing
 pub mod PartLaws
+pub mod ReservedLaws

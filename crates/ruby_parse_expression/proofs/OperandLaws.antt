@@ -1,4 +1,4 @@
--- How the operands of one level are read, by the signs that the code has.
+-- How the operands of one level are read, by the terminals that the code has.
 use Rattle.std.proofs.Common.{◌≡◌, ℕ, ◌<◌, Bool, true, false, ◌==◌, ◌||◌, List, [], ◌∷◌, refl, sym, ap, ◌∙◌, subst}
 use Rattle.std.proofs.Common.{arith, lit<, Result, Ok, Err}
 use Rattle.std.proofs.lemmas.Bool.Decides.{nat_tests}
@@ -29,7 +29,7 @@ either : (n : ℕ) (a b : Bool) → (a ≡ true → n < 98) → (b ≡ true → 
 either n true b f g e = f refl
 either n false b f g e = g e
 
--- a sign of an operator is a word's
+-- a terminal of an operator is a word's
 pub operator_bound : (level : Level) (n : ℕ) → is_operator_terminal level n ≡ true → n < 98
 operator_bound units n e = absurd (cc)
 operator_bound products n e = either n ((n == 81) || (n == 82)) (n == 83)
@@ -55,6 +55,7 @@ module _ (level t : Level) (here : Scope) (u : t ≡ tighter level) where
     operator_here : is_operator level w ≡ true
     operator_here = sym (ap (λ l. next_is (is_operator level) (head l)) e) ∙ (sym (operator_at level ws) ∙ o)
 
+    -- An operator that may stand in a row, its second operand, and what follows.
     pub next_reads : (y z : Expr) (behind rest : List Word) (r : Result Expr Fault) →
         GivesRule (operators t here) mid (Ok y) behind → z ≡ operation w x y → repeats level ≡ true →
         GivesRule (more_operators level here z) behind r rest → GivesRule (more_operators level here x) ws r rest
@@ -62,6 +63,7 @@ module _ (level t : Level) (here : Scope) (u : t ≡ tighter level) where
         (tight mid behind (Ok y) a)
         (subst (λ b. Gives {s = an_expression} (operators_behind b level here z) behind r rest) (sym m) g)
 
+    -- An operator that stands alone, and its second operand.
     pub last_reads : (y z : Expr) (behind : List Word) → GivesRule (operators t here) mid (Ok y) behind →
         z ≡ operation w x y → repeats level ≡ false → GivesRule (more_operators level here x) ws (Ok z) behind
     last_reads y z behind a q m = operator_reads level here w x y z ws mid behind behind (Ok z) e operator_here q
@@ -69,10 +71,13 @@ module _ (level t : Level) (here : Scope) (u : t ≡ tighter level) where
         (subst (λ b. Gives {s = an_expression} (operators_behind b level here z) behind (Ok z) behind) (sym m)
         (g_give {s = an_expression} z behind))
 
+    -- A fault in the second operand of an operator.
     pub next_breaks : (d : Fault) (rest : List Word) → GivesRule (operators t here) mid (Err d) rest →
         GivesRule (more_operators level here x) ws (Err d) rest
     next_breaks d rest a = operator_breaks level here w x d ws mid rest e operator_here (tight mid rest (Err d) a)
 
-pub operands_end : (level : Level) (here : Scope) (x : Expr) (ws : List Word) → is_operator_terminal level (head_terminal ws)
+-- No operator of the level is at hand, so the expression ends.
+pub operands_end : (level : Level) (here : Scope) (x : Expr) (ws : List Word) →
+    is_operator_terminal level (head_terminal ws)
     ≡ false → GivesRule (more_operators level here x) ws (Ok x) ws
 operands_end level here x ws o = operators_end level here x ws (sym (operator_at level ws) ∙ o)

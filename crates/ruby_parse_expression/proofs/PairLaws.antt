@@ -26,6 +26,7 @@ module _ (here : Scope) (ps : List (Expr × Expr)) where
       (take (give ps))
   comma_chosen ws b e = ap (λ b. cond b (take (token is_comma (λ _. only (pairs here ps)))) (take (give ps))) e
 
+  -- A pair, and what follows it.
   pub pair_reads : (p : Expr × Expr) (ws mid rest : List Word) (r : Result (List (Expr × Expr)) Fault) →
       next_is starts_pair (head ws) ≡ true →
       GivesRule (pair here) ws (Ok p) mid → GivesRule (more_pairs here (ps ++ p ∷ [])) mid r rest →
@@ -33,15 +34,18 @@ module _ (here : Scope) (ps : List (Expr × Expr)) where
   pair_reads p ws mid rest r q a g = g_chosen {s = some_pairs} (pairs here ps) (pair_then here ps) ws rest r
       (pairs_chosen ws true q) (g_then {s = some_pairs} {v = a_pair} (pair here) _ p ws mid rest r a g)
 
+  -- A fault in a pair.
   pub pair_breaks : (e : Fault) (ws rest : List Word) → next_is starts_pair (head ws) ≡ true →
       GivesRule (pair here) ws (Err e) rest → GivesRule (pairs here ps) ws (Err e) rest
   pair_breaks e ws rest q a = g_chosen {s = some_pairs} (pairs here ps) (pair_then here ps) ws rest (Err e)
       (pairs_chosen ws true q) (g_fails {s = some_pairs} {v = a_pair} (pair here) _ ws rest e a)
 
+  -- No pair is at hand, so the list ends.
   pub pairs_end : (ws : List Word) → next_is starts_pair (head ws) ≡ false → GivesRule (pairs here ps) ws (Ok ps) ws
   pairs_end ws p = g_chosen {s = some_pairs} (pairs here ps) (give ps) ws ws (Ok ps) (pairs_chosen ws false p)
       (g_give {s = some_pairs} ps ws)
 
+  -- A comma, and perhaps more pairs.
   pub comma_reads : (ws mid rest : List Word) (r : Result (List (Expr × Expr)) Fault) →
       next_is is_comma (head ws) ≡ true → mid ≡ drop 1 ws → GivesRule (pairs here ps) mid r rest →
       GivesRule (more_pairs here ps) ws r rest
@@ -49,6 +53,7 @@ module _ (here : Scope) (ps : List (Expr × Expr)) where
       (token is_comma (λ _. only (pairs here ps))) ws rest r (comma_chosen ws true p)
       (g_skip {s = some_pairs} is_comma _ ws mid rest r p d (λ _. g))
 
+  -- No comma is at hand, so the list ends.
   pub no_comma : (ws : List Word) → next_is is_comma (head ws) ≡ false → GivesRule (more_pairs here ps) ws (Ok ps) ws
   no_comma ws p = g_chosen {s = some_pairs} (more_pairs here ps) (give ps) ws ws (Ok ps) (comma_chosen ws false p)
       (g_give {s = some_pairs} ps ws)
@@ -61,6 +66,7 @@ module _ (here : Scope) (ws : List Word) where
   labelled : (w : Word) (mid : List Word) → ws ≡ w ∷ mid → is_label w ≡ true → next_is is_label (head ws) ≡ true
   labelled w mid e p = ap (λ l. next_is is_label (head l)) e ∙ p
 
+  -- A label and its value.
   pub label_reads : (w : Word) (b : Expr) (y : Expr × Expr) (mid rest : List Word) → ws ≡ w ∷ mid →
       is_label w ≡ true → GivesRule (expression here) mid (Ok b) rest → y ≡ (expr.Sym (before_colon w.text), b) →
       GivesRule (pair here) ws (Ok y) rest
@@ -71,12 +77,14 @@ module _ (here : Scope) (ws : List Word) where
       (subst (λ z. Gives {s = a_pair} (give (expr.Sym (before_colon w.text), b)) rest (Ok z) rest) (sym q)
       (g_give {s = a_pair} (expr.Sym (before_colon w.text), b) rest))))
 
+  -- A fault in the value of a label.
   pub label_breaks : (w : Word) (d : Fault) (mid rest : List Word) → ws ≡ w ∷ mid → is_label w ≡ true →
       GivesRule (expression here) mid (Err d) rest → GivesRule (pair here) ws (Err d) rest
   label_breaks w d mid rest e p a =
       g_chosen {s = a_pair} (pair here) (label_pair here) ws rest (Err d) (pair_chosen true (labelled w mid e p))
       (g_word {s = a_pair} is_label _ w ws mid rest (Err d) e p (g_fails {s = a_pair} (expression here) _ mid rest d a))
 
+  -- A key, `=>` and a value.
   pub arrow_reads : (a b : Expr) (mid inside rest : List Word) → next_is is_label (head ws) ≡ false →
       GivesRule (expression here) ws (Ok a) mid → next_is is_arrow (head mid) ≡ true → inside ≡ drop 1 mid →
       GivesRule (expression here) inside (Ok b) rest → GivesRule (pair here) ws (Ok (a, b)) rest
@@ -87,11 +95,13 @@ module _ (here : Scope) (ws : List Word) where
       (λ _. g_then {s = a_pair} (expression here) _ b inside rest rest (Ok (a, b)) h
       (g_give {s = a_pair} (a, b) rest))))
 
+  -- A fault in a key.
   pub arrow_breaks : (e : Fault) (rest : List Word) → next_is is_label (head ws) ≡ false →
       GivesRule (expression here) ws (Err e) rest → GivesRule (pair here) ws (Err e) rest
   arrow_breaks e rest n g = g_chosen {s = a_pair} (pair here) (arrow_pair here) ws rest (Err e) (pair_chosen false n)
       (g_fails {s = a_pair} (expression here) _ ws rest e g)
 
+  -- The `=>` behind a key lacks.
   pub arrow_lacks : (a : Expr) (mid : List Word) → next_is is_label (head ws) ≡ false →
       GivesRule (expression here) ws (Ok a) mid → next_is is_arrow (head mid) ≡ false →
       GivesRule (pair here) ws (Err f.Unexpected) mid
@@ -100,6 +110,7 @@ module _ (here : Scope) (ws : List Word) where
       (g_then {s = a_pair} (expression here) _ a ws mid mid (Err f.Unexpected) g
       (g_lacks {s = a_pair} is_arrow _ mid p))
 
+  -- A fault in the value behind `=>`.
   pub arrow_breaks_behind : (a : Expr) (e : Fault) (mid inside rest : List Word) →
       next_is is_label (head ws) ≡ false → GivesRule (expression here) ws (Ok a) mid →
       next_is is_arrow (head mid) ≡ true → inside ≡ drop 1 mid →

@@ -45,11 +45,13 @@ module _ (here : Scope) (double : Bool) (parts : List Part) (ws : List Word) whe
       (take (give parts)))) p
       ∙ ap (λ b. cond b (deepen here.levels (inside_from here double parts)) (take (give parts))) q
 
+  -- No part of a text is at hand, so the parts end.
   pub parts_end : next_is is_text_piece (head ws) ≡ false → next_is is_inside_open (head ws) ≡ false →
       GivesRule (text_parts here double parts) ws (Ok parts) ws
   parts_end p q = g_chosen {s = some_parts} (text_parts here double parts) (give parts) ws ws (Ok parts)
       (end_chosen p q) (g_give {s = some_parts} parts ws)
 
+  -- A piece of a text, and what follows it.
   pub piece_reads : (w : Word) (more : List Part) (mid rest : List Word) (r : Result (List Part) Fault) →
       ws ≡ w ∷ mid → is_text_piece w ≡ true → more ≡ parts ++ part.Plain (text_bytes double w.text) ∷ [] →
       GivesRule (text_parts here double more) mid r rest → GivesRule (text_parts here double parts) ws r rest
@@ -59,6 +61,7 @@ module _ (here : Scope) (double : Bool) (parts : List Part) (ws : List Word) whe
       (g_word {s = some_parts} is_text_piece _ w ws mid rest r e p
       (subst (λ xs. GivesRule (text_parts here double xs) mid r rest) q g))
 
+  -- No level is left for an expression in a text.
   pub inside_deep : next_is is_text_piece (head ws) ≡ false → next_is is_inside_open (head ws) ≡ true →
       here.levels ≡ 0 → GivesRule (text_parts here double parts) ws (Err f.Deep) ws
   inside_deep p q e = g_deep {s = some_parts} (text_parts here double parts) ws (inside_chosen p q
@@ -70,6 +73,7 @@ module _ (here inner : Scope) (n : ℕ) (double : Bool) (parts : List Part) (ws 
   inside_taken : choose ruby_choices (text_parts here double parts) ws ≡ take (inside_from here double parts n)
   inside_taken = inside_chosen here double parts ws p q ∙ ap (λ m. deepen m (inside_from here double parts)) l
 
+  -- An expression in a text, and what follows it.
   pub inside_reads : (x : Expr) (more : List Part) (behind rest end : List Word) (r : Result (List Part) Fault) →
       GivesRule (expression inner) mid (Ok x) behind → next_is is_inside_close (head behind) ≡ true →
       rest ≡ drop 1 behind →
@@ -81,6 +85,7 @@ module _ (here inner : Scope) (n : ℕ) (double : Bool) (parts : List Part) (ws 
       inner n ws mid inside_taken q d i
       x behind rest end r a c e (subst (λ xs. GivesRule (text_parts here double xs) rest r end) m g)
 
+  -- A fault in an expression in a text.
   pub inside_breaks : (e : Fault) (rest : List Word) → GivesRule (expression inner) mid (Err e) rest →
       GivesRule (text_parts here double parts) ws (Err e) rest
   inside_breaks e rest a =
@@ -88,6 +93,7 @@ module _ (here inner : Scope) (n : ℕ) (double : Bool) (parts : List Part) (ws 
       (λ x. only (text_parts here double (parts ++ part.Inside x ∷ []))) is_inside_open is_inside_close here
       inner n ws mid inside_taken q d i e rest a
 
+  -- The `}` of an expression in a text lacks.
   pub inside_lacks_close : (x : Expr) (behind : List Word) → GivesRule (expression inner) mid (Ok x) behind →
       next_is is_inside_close (head behind) ≡ false →
       GivesRule (text_parts here double parts) ws (Err f.Unexpected) behind
@@ -107,6 +113,7 @@ module _ (here : Scope) (w : Word) (double : Bool) (ws mid : List Word) (s : hea
       GivesRule (text_parts here (is_double_quote w) []) mid r rest
   parts_as r rest g = subst (λ b. GivesRule (text_parts here b []) mid r rest) (t ∙ same_quote w.text) g
 
+  -- A text with its quotes.
   pub text_reads : (parts : List Part) (behind rest : List Word) →
       GivesRule (text_parts here double []) mid (Ok parts) behind → next_is is_text_close (head behind) ≡ true →
       rest ≡ drop 1 behind → GivesRule (primary here) ws (Ok (expr.Str parts)) rest
@@ -119,6 +126,7 @@ module _ (here : Scope) (w : Word) (double : Bool) (ws mid : List Word) (s : hea
       (g_skip {s = an_expression} is_text_close _ behind rest rest (Ok (expr.Str parts)) c d
       (λ _. g_give {s = an_expression} (expr.Str parts) rest))))
 
+  -- A fault in the parts of a text.
   pub text_breaks : (d : Fault) (rest : List Word) → GivesRule (text_parts here double []) mid (Err d) rest →
       GivesRule (primary here) ws (Err d) rest
   text_breaks d rest g =
@@ -127,6 +135,7 @@ module _ (here : Scope) (w : Word) (double : Bool) (ws mid : List Word) (s : hea
       (g_fails {s = an_expression} {v = some_parts} (text_parts here (is_double_quote w) []) _ mid rest d
       (parts_as (Err d) rest g)))
 
+  -- The closing quote of a text lacks.
   pub text_lacks_close : (parts : List Part) (behind : List Word) →
       GivesRule (text_parts here double []) mid (Ok parts) behind → next_is is_text_close (head behind) ≡ false →
       GivesRule (primary here) ws (Err f.Unexpected) behind

@@ -1,4 +1,4 @@
--- What a pair of a hash begins with, by its sign.
+-- What a pair of a hash begins with, by its terminal.
 use Rattle.std.specs.Prelude.{ℕ, Bool, ◌==◌, ◌||◌}
 use Rattle.ruby_parse_cursor.specs.Views.{expression_terminal}
 

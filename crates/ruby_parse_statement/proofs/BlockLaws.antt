@@ -25,17 +25,20 @@ use Rattle.ruby_parse_statement.proofs.Steps.{skips, lacks, fails, value_then, v
 use Rattle.ruby_parse_statement.proofs.Steps.{picked, unmade, apart}
 
 -- ---- a Line, perhaps
+-- A Line that may stand there, where it does.
 pub line_skipped : (ws rest : List Word) → next_is is_line (head ws) ≡ true → rest ≡ drop 1 ws →
     GivesRule perhaps_line ws (Ok tt) rest
 line_skipped ws rest p d = g_chosen {s = no_value} perhaps_line (token is_line λ _. give tt) ws rest (Ok tt)
     (cond-true _ _ _ p) (g_skip {s = no_value} is_line (λ _. give tt) ws rest rest (Ok tt) p d
     (λ _. g_give {s = no_value} tt rest))
 
+-- No Line stands there.
 pub no_line : (ws : List Word) → next_is is_line (head ws) ≡ false → GivesRule perhaps_line ws (Ok tt) ws
 no_line ws p = g_chosen {s = no_value} perhaps_line (give tt) ws ws (Ok tt) (cond-false _ _ _ p)
     (g_give {s = no_value} tt ws)
 
 -- ---- `then` or a Line
+-- `then`, perhaps with a Line behind it.
 pub then_reads : (ws mid rest : List Word) (r : Result (Unit {0}) Fault) → next_is is_then (head ws) ≡ true →
     mid ≡ drop 1 ws → GivesRule perhaps_line mid r rest → GivesRule then_or_line ws r rest
 then_reads ws mid rest r p d g = g_chosen {s = no_value} then_or_line (token is_then λ _. only perhaps_line) ws rest
@@ -61,6 +64,7 @@ line_taken ws rest (Err e) p q d u s o = fails {s = no_value} (only then_or_line
 
 -- ---- a condition with its `then` or Line
 module _ (here : Scope) (is_unless : Bool) where
+  -- The condition of an arm, and what follows it.
   pub test_reads : (x test : Expr) (ws mid rest : List Word) → GivesRule (expression here) ws (Ok x) mid →
       test ≡ tested is_unless x → GivesRule then_or_line mid (Ok tt) rest → GivesTest here is_unless ws (Ok test) rest
   test_reads x test ws mid rest g t l = λ next r end k.
@@ -68,10 +72,12 @@ module _ (here : Scope) (is_unless : Bool) where
       (rule_then {v = no_value} then_or_line (λ _. next (tested is_unless x)) tt mid rest end r l
       (subst (λ v. Gives (next v) rest r end) t k))
 
+  -- A fault in the condition of an arm.
   pub test_breaks : (e : Fault) (ws rest : List Word) → GivesRule (expression here) ws (Err e) rest →
       GivesTest here is_unless ws (Err e) rest
   test_breaks e ws rest g = λ next. value_fails here (λ x. call then_or_line λ _. next (tested is_unless x)) e ws rest g
 
+  -- Neither `then` nor a Line stands behind a condition.
   pub test_lacks_line : (x : Expr) (e : Fault) (ws mid rest : List Word) →
       GivesRule (expression here) ws (Ok x) mid → GivesRule then_or_line mid (Err e) rest →
       GivesTest here is_unless ws (Err e) rest
@@ -79,6 +85,7 @@ module _ (here : Scope) (is_unless : Bool) where
       value_then here (λ x. call then_or_line λ _. next (tested is_unless x)) x ws mid rest (Err e) g
       (rule_fails {v = no_value} then_or_line (λ _. next (tested is_unless x)) e mid rest l)
 
+  -- Want of memory in the condition of an arm.
   pub test_unmade : (e : Fault) (ws rest : List Word) → e ≡ f.Memory → GivesTest here is_unless ws (Err e) rest
   test_unmade e ws rest u = λ next. unmade (test_then here is_unless next) ws rest e u
 
@@ -89,6 +96,7 @@ module _ (here : Around) (is_unless : Bool) (arms : List (Expr × List Stmt)) wh
   behind_test x = call (statements here []) λ b.
       only (arms_rest here.levels here.sets (not is_unless) (arms ++ (x, b.stmts) ∷ []) b)
 
+  -- An arm, and what follows it.
   pub arm_reads : (test : Expr) (b : Held) (names : List Name) (longer : List (Expr × List Stmt))
       (ws mid rest : List Word) → GivesTest (scope here.levels here.names) is_unless ws (Ok test) mid →
       GivesRule (statements here []) mid (block_as names (Ok b)) rest → longer ≡ arms ++ (test, b.statements) ∷ [] →
@@ -101,11 +109,13 @@ module _ (here : Around) (is_unless : Bool) (arms : List (Expr × List Stmt)) wh
       (subst (λ v. GivesRule (arms_rest here.levels here.sets (not is_unless) v (block b.statements names b.closed))
       rest r end) l (k b.statements)))
 
+  -- A fault in the condition of an arm stops the arm.
   pub arm_lacks_test : (e : Fault) (longer : List (Expr × List Stmt)) (names : List Name) (ws rest : List Word) →
       GivesTest (scope here.levels here.names) is_unless ws (Err e) rest →
       GivesArms here is_unless arms ws (Err e) longer names rest
   arm_lacks_test e longer names ws rest g = g behind_test
 
+  -- A fault in the statements of an arm.
   pub arm_breaks : (test : Expr) (e : Fault) (longer : List (Expr × List Stmt)) (names : List Name)
       (ws mid rest : List Word) → GivesTest (scope here.levels here.names) is_unless ws (Ok test) mid →
       GivesRule (statements here []) mid (Err e) rest →
@@ -115,6 +125,7 @@ module _ (here : Around) (is_unless : Bool) (arms : List (Expr × List Stmt)) wh
       (rule_fails {v = a_block} (statements here [])
       (λ b. only (arms_rest here.levels here.sets (not is_unless) (arms ++ (test, b.stmts) ∷ []) b)) e mid rest h)
 
+  -- Want of memory in an arm.
   pub arm_unmade : (e : Fault) (longer : List (Expr × List Stmt)) (names : List Name) (ws rest : List Word) →
       e ≡ f.Memory → GivesArms here is_unless arms ws (Err e) longer names rest
   arm_unmade e longer names ws rest u = unmade (arm_then here is_unless arms) ws rest e u
@@ -124,6 +135,7 @@ module _ (here : Around) (arms : List (Expr × List Stmt)) where
   abbrev ending : List Stmt → Known
   ending others = known (stmt.If arms others false) here.names
 
+  -- `end` behind the arms.
   pub rest_ends : (is_unless closed : Bool) (ws rest : List Word) → next_is is_end (head ws) ≡ true →
       rest ≡ drop 1 ws → GivesRest here is_unless arms closed ws (Ok (known (stmt.If arms [] false) here.names)) rest
   rest_ends is_unless closed ws rest p d = λ ss.
@@ -136,6 +148,7 @@ module _ (here : Around) (arms : List (Expr × List Stmt)) where
       ≡ take (else_more here.levels here.sets arms (block ss here.names true))
   else_chosen may_elsif ss ws p = cond-false _ _ _ (apart 7 4 ws refl p) ∙ cond-true _ _ _ p
 
+  -- `else` behind the arms.
   pub rest_is_else : (is_unless closed : Bool) (ws rest : List Word) (r : Result Known Fault) →
       (closed && next_is is_else (head ws)) ≡ true →
       Gives (else_more here.levels here.sets arms (block [] here.names true)) ws r rest →
@@ -152,6 +165,7 @@ module _ (here : Around) (arms : List (Expr × List Stmt)) where
   elsif_chosen ss ws p = cond-false _ _ _ (apart 6 4 ws refl p) ∙ cond-false _ _ _ (apart 6 7 ws refl p)
       ∙ cond-true _ _ _ p
 
+  -- `elsif` behind an arm, and what follows it.
   pub rest_is_elsif : (is_unless closed : Bool) (ws mid rest : List Word) (r : Result Known Fault) →
       (closed && (not is_unless && next_is is_elsif (head ws))) ≡ true → mid ≡ drop 1 ws →
       Gives (arm_then here false arms) mid r rest →
@@ -172,6 +186,7 @@ module _ (here : Around) (arms : List (Expr × List Stmt)) where
   none_chosen true true ss ws p q n = cond-false _ _ _ n ∙ cond-false _ _ _ q
   none_chosen false true ss ws p q n = cond-false _ _ _ n ∙ cond-false _ _ _ q ∙ cond-false _ _ _ p
 
+  -- Nothing that may follow the arms is at hand.
   pub rest_is_nothing : (is_unless closed : Bool) (e : Fault) (ws rest : List Word) →
       (closed && (not is_unless && next_is is_elsif (head ws))) ≡ false → (closed && next_is is_else (head ws))
       ≡ false →
@@ -200,11 +215,13 @@ module _ (here : Around) where
     opened arms r rest g = skips is_else (call perhaps_line λ _. else_block arms) ws mid rest r p d
         (rule_then {v = no_value} perhaps_line (λ _. else_block arms) tt mid behind' rest r l g)
 
+    -- A fault in the statements behind `else`.
     pub else_breaks : (e : Fault) (names : List Name) (rest : List Word) →
         GivesRule (statements here []) behind' (Err e) rest → GivesElse here ws (Err e) names rest
     else_breaks e names rest g = λ arms.
         opened arms (Err e) rest (rule_fails {v = a_block} (statements here []) (λ c. else_end arms c) e behind' rest g)
 
+    -- The `end` behind `else` lacks.
     pub else_lacks_end : (b : Held) (e : Fault) (names : List Name) (end rest : List Word) →
         GivesRule (statements here []) behind' (block_as names (Ok b)) end → rest ≡ end →
         next_is is_end (head end) ≡ false → e ≡ f.Unexpected → GivesElse here ws (Err e) names rest
@@ -214,6 +231,7 @@ module _ (here : Around) where
         behind' end rest (Err e) g
         (lacks is_end (λ _. give (known (stmt.If arms b.statements false) names)) end rest e s n u))
 
+    -- `else`, its statements and `end`.
     pub else_reads : (b : Held) (names : List Name) (end rest : List Word) →
         GivesRule (statements here []) behind' (block_as names (Ok b)) end → next_is is_end (head end) ≡ true →
         rest ≡ drop 1 end →
@@ -226,11 +244,13 @@ module _ (here : Around) where
         (Ok (known (stmt.If arms b.statements false) names)) n s
         (g_give {s = a_statement} (known (stmt.If arms b.statements false) names) rest)))
 
+  -- A missing `else` is a fault.
   pub no_else : (e : Fault) (names : List Name) (ws rest : List Word) → rest ≡ ws →
       next_is is_else (head ws) ≡ false → e ≡ f.Unexpected → GivesElse here ws (Err e) names rest
   no_else e names ws rest d p u = λ arms. lacks is_else (λ _. call perhaps_line λ _. else_block arms) ws rest e d p u
 
 -- ---- all arms
+-- The arms begin with none.
 pub begun : (here : Around) (is_unless : Bool) (arms : List (Expr × List Stmt)) (ws rest : List Word)
     (r : Result Known Fault) → arms ≡ [] → Gives (arm_then here is_unless arms) ws r rest →
     Gives (arm_then here is_unless []) ws r rest
@@ -242,6 +262,7 @@ no_unless true false e h = refl
 no_unless true true e h = absurd (cc)
 no_unless false is_unless e h = absurd (cc)
 
+-- One arm more, and what follows it.
 pub further_arm : (here : Around) (is_unless closed : Bool) (arms : List (Expr × List Stmt))
     (ws mid behind' end : List Word) (more : Bool) (longer : List (Expr × List Stmt)) (names : List Name)
     (r : Result Known Fault) →

@@ -25,6 +25,7 @@ module _ (levels : ℕ) (names : List Name) where
   abbrev with_unless : Stmt → Expr → Known
   with_unless s x = known (conditioned s (Some (expr.Not x))) names
 
+  -- `if` and a condition behind a statement.
   pub if_reads : (x : Expr) (ws mid rest : List Word) → next_is is_if (head ws) ≡ true → mid ≡ drop 1 ws →
       GivesRule (expression (scope levels names)) mid (Ok x) rest → GivesCondition levels names ws (Ok (Some x)) rest
   if_reads x ws mid rest p d g = λ s. picked (condition_behind levels (known s names))
@@ -32,6 +33,7 @@ module _ (levels : ℕ) (names : List Name) where
       (skips is_if (call (expression (scope levels names)) λ x. give (with_if s x)) ws mid rest
       (Ok (with_if s x)) p d (value (scope levels names) (λ x. with_if s x) x mid rest g))
 
+  -- A fault in a condition behind `if`.
   pub if_breaks : (e : Fault) (ws mid rest : List Word) → next_is is_if (head ws) ≡ true → mid ≡ drop 1 ws →
       GivesRule (expression (scope levels names)) mid (Err e) rest → GivesCondition levels names ws (Err e) rest
   if_breaks e ws mid rest p d g = λ s. picked (condition_behind levels (known s names))
@@ -39,6 +41,7 @@ module _ (levels : ℕ) (names : List Name) where
       (skips is_if (call (expression (scope levels names)) λ x. give (with_if s x)) ws mid rest (Err e) p d
       (value_fails (scope levels names) (λ x. give (with_if s x)) e mid rest g))
 
+  -- `unless` and a condition behind a statement, which it turns round.
   pub unless_reads : (x y : Expr) (ws mid rest : List Word) → next_is is_if (head ws) ≡ false →
       next_is is_unless (head ws) ≡ true → mid ≡ drop 1 ws → y ≡ expr.Not x →
       GivesRule (expression (scope levels names)) mid (Ok x) rest → GivesCondition levels names ws (Ok (Some y)) rest
@@ -49,6 +52,7 @@ module _ (levels : ℕ) (names : List Name) where
       (skips is_unless (call (expression (scope levels names)) λ x. give (with_unless s x)) ws mid rest
       (Ok (with_unless s x)) q d (value (scope levels names) (λ x. with_unless s x) x mid rest g)))
 
+  -- A fault in a condition behind `unless`.
   pub unless_breaks : (e : Fault) (ws mid rest : List Word) → next_is is_if (head ws) ≡ false →
       next_is is_unless (head ws) ≡ true → mid ≡ drop 1 ws →
       GivesRule (expression (scope levels names)) mid (Err e) rest → GivesCondition levels names ws (Err e) rest
@@ -57,10 +61,12 @@ module _ (levels : ℕ) (names : List Name) where
       (skips is_unless (call (expression (scope levels names)) λ x. give (with_unless s x)) ws mid rest (Err e) q d
       (value_fails (scope levels names) (λ x. give (with_unless s x)) e mid rest g))
 
+  -- No condition stands behind a statement.
   pub no_condition : (ws : List Word) → next_is is_if (head ws) ≡ false → next_is is_unless (head ws) ≡ false →
       GivesCondition levels names ws (Ok None) ws
   no_condition ws p q = λ s. picked (condition_behind levels (known s names)) (give (known s names)) ws ws
       (Ok (known s names)) (cond-false _ _ _ p ∙ cond-false _ _ _ q) (g_give {s = a_statement} (known s names) ws)
 
+  -- Want of memory in a condition behind a statement.
   pub condition_unmade : (e : Fault) (ws rest : List Word) → e ≡ f.Memory → GivesCondition levels names ws (Err e) rest
   condition_unmade e ws rest u = λ s. unmade (only (condition_behind levels (known s names))) ws rest e u

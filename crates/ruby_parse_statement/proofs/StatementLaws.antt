@@ -17,7 +17,10 @@ use Rattle.ruby_parse_cursor.specs.declared.fault.Fault.TheVariants as f
 use Rattle.ruby_parse_steps.specs.Gives.{Gives, GivesRule}
 use Rattle.ruby_parse_steps.proofs.Descent.{g_give, g_chosen, g_skip, g_then, g_fails, g_deep}
 use Rattle.ruby_parse_statement.specs.Arms.{arm_then}
-use Rattle.ruby_parse_statement.proofs.Steps.{skips, rule_then, rule_fails, picked, apart}
+use Rattle.ruby_parse_statement.proofs.Steps.{skips, rule_then, rule_fails, picked, apart, unmade}
+use Rattle.ruby_parse_statement.specs.Answers.{known_as, conditioned, GivesCondition}
+use Rattle.ruby_types.specs.declared.tree.Expr.{Expr}
+use Rattle.std.specs.Prelude.{IfOk, IfErr, Option}
 
 -- ---- a block `if` or `unless`
 module _ (here : Around) where
@@ -56,6 +59,7 @@ module _ (here : Around) where
   true_or true b e h = refl
   true_or false b e h = absurd (cc)
 
+  -- No level is left for a block.
   pub block_deep : (e : Fault) (ws rest : List Word) → (next_is is_if (head ws) || next_is is_unless (head ws))
       ≡ true → here.levels ≡ 0 → e ≡ f.Deep → GivesRule (statement here) ws (Err e) ws
   block_deep e ws rest o l u = subst (λ x. GivesRule (statement here) ws (Err x) ws) (sym u)
@@ -66,6 +70,7 @@ module _ (here : Around) where
       ∙ ap (λ n. deepen n (if_from here)) l))
       (cases_Bool (next_is is_unless (head ws))))
 
+  -- A block, by its `if` or `unless`.
   pub block_opens : (inner : Around) (u : Bool) (ws mid rest : List Word) (r : Result Known Fault) →
       (next_is is_if (head ws) || next_is is_unless (head ws)) ≡ true → u ≡ next_is is_unless (head ws) →
       here.levels ≡ suc inner.levels → inner.sets ≡ here.sets → inner.names ≡ here.names → mid ≡ drop 1 ws →
@@ -93,6 +98,7 @@ module _ (here : Around) where
       ∙ cond-false (next_is is_unless (head ws)) (deepen here.levels (unless_from here))
       (take (call (simple_statement here) λ t. only (condition_behind here.levels t))) n.1
 
+  -- A simple statement, and the condition behind it.
   pub simple_reads : (s : Stmt) (names : List Name) (ws mid rest : List Word) (r : Result Known Fault) →
       (next_is is_if (head ws) || next_is is_unless (head ws)) ≡ false →
       GivesRule (simple_statement here) ws (Ok (known s names)) mid →
@@ -103,6 +109,7 @@ module _ (here : Around) where
       (rule_then {v = a_statement} (simple_statement here) (λ t. only (condition_behind here.levels t))
       (known s names) ws mid rest r g h)
 
+  -- A fault in a simple statement.
   pub simple_breaks : (e : Fault) (ws rest : List Word) → (next_is is_if (head ws) || next_is is_unless (head ws))
       ≡ false → GivesRule (simple_statement here) ws (Err e) rest → GivesRule (statement here) ws (Err e) rest
   simple_breaks e ws rest p g =
@@ -110,7 +117,20 @@ module _ (here : Around) where
       (Err e) (simple_chosen ws p)
       (rule_fails {v = a_statement} (simple_statement here) (λ t. only (condition_behind here.levels t)) e ws rest g)
 
+  -- A simple statement, with what was made of it and of the condition behind it.
+  pub conditioned_reads : (s : Stmt) (o : Option Expr) (names : List Name) (made : Result Stmt Fault)
+      (ws mid rest : List Word) → (next_is is_if (head ws) || next_is is_unless (head ws)) ≡ false →
+      GivesRule (simple_statement here) ws (Ok (known s names)) mid →
+      GivesCondition here.levels names mid (Ok o) rest →
+      IfOk made (λ z. z ≡ conditioned s o) → IfErr made (λ e. e ≡ f.Memory) →
+      GivesRule (statement here) ws (known_as names made) rest
+  conditioned_reads s o names (Ok z) ws mid rest p g h ok fault =
+      subst (λ (y : Stmt). GivesRule (statement here) ws (Ok (known y names)) rest) (sym ok)
+      (simple_reads s names ws mid rest (Ok (known (conditioned s o) names)) p g (h s))
+  conditioned_reads s o names (Err e) ws mid rest p g h ok fault = unmade (only (statement here)) ws rest e fault
+
 -- ---- statements
+-- Whether a statement begins, by the terminal at hand.
 pub begins_statement : (ws : List Word) → next_is starts_statement (head ws) ≡ statement_terminal (head_terminal ws)
 begins_statement [] = refl
 begins_statement (w ∷ ws) = refl
@@ -123,12 +143,14 @@ module _ (here : Around) (ss : List Stmt) where
       ap (λ b. cond b (take (statement_then here ss)) (take (give (block ss here.names true)))) (begins_statement ws
       ∙ e)
 
+  -- No statement is at hand, so the block ends.
   pub statements_end : (ws : List Word) → statement_terminal (head_terminal ws) ≡ false →
       GivesRule (statements here ss) ws (Ok (block ss here.names true)) ws
   statements_end ws p = g_chosen {s = a_block} (statements here ss) (give (block ss here.names true)) ws ws
       (Ok (block ss here.names true)) (statements_chosen ws false p)
       (g_give {s = a_block} (block ss here.names true) ws)
 
+  -- A fault in a statement.
   pub statements_break : (e : Fault) (ws rest : List Word) → statement_terminal (head_terminal ws) ≡ true →
       GivesRule (statement here) ws (Err e) rest → GivesRule (statements here ss) ws (Err e) rest
   statements_break e ws rest p g = g_chosen {s = a_block} (statements here ss) (statement_then here ss) ws rest
@@ -145,6 +167,7 @@ module _ (here : Around) (ss : List Stmt) where
       (g_then {s = a_block} {v = a_statement} (statement here)
       (λ s. only (more_statements (behind here s.names) (ss ++ s.stmt ∷ []))) (known s names) ws mid rest r g h)
 
+  -- A statement with its Line, and what follows it.
   pub statement_and_line : (s : Stmt) (names : List Name) (longer : List Stmt) (ws mid rest end : List Word)
       (r : Result Block Fault) → statement_terminal (head_terminal ws) ≡ true →
       GivesRule (statement here) ws (Ok (known s names)) mid →
@@ -157,6 +180,7 @@ module _ (here : Around) (ss : List Stmt) where
       (g_skip {s = a_block} is_line (λ _. only (statements (behind here names) (ss ++ s ∷ []))) mid rest end r q d
       (λ _. subst (λ l. GivesRule (statements (behind here names) l) rest r end) l h)))
 
+  -- A statement without its Line is the last.
   pub statement_without_line : (s : Stmt) (names : List Name) (longer : List Stmt) (ws mid : List Word) →
       statement_terminal (head_terminal ws) ≡ true → GivesRule (statement here) ws (Ok (known s names)) mid →
       longer ≡ ss ++ s ∷ [] → next_is is_line (head mid) ≡ false →

@@ -1,6 +1,6 @@
 //! Statements without a block, and conditions behind them.
 
-ghost use Rattle.std.specs.Prelude.{◌≡◌, ◌≤◌, ◌||◌, ◌∷◌, [], true, false, length, IfOk};
+ghost use Rattle.std.specs.Prelude.{◌≡◌, ◌≤◌, ◌||◌, ◌∷◌, [], true, false, length, IfOk, IfErr};
 ghost use Rattle.descent.specs.Reading.{head};
 ghost use Rattle.ruby_grammar.specs.Signs.{is_if, is_unless};
 ghost use Rattle.ruby_grammar.specs.Choices.{next_is};
@@ -15,11 +15,12 @@ use ruby_parse_cursor::{Cursor, Fault, Locals};
 use ruby_parse_steps::negated;
 use ruby_types::{Arms, Expr, Stmt, Stmts};
 use ruby_words::{IF, UNLESS};
-use std::alloc::{AllocError, Global};
+use std::alloc::Global;
 
 /// An `if` with one arm behind its statement.
-fn if_behind(alloc: Global, test: Expr, statement: Stmt) -> Result<Stmt, AllocError>
-    ensures { IfOk result (λ s. s ≡ Stmt.If ((test, statement ∷ []) ∷ []) [] true) }
+fn if_behind(alloc: Global, test: Expr, statement: Stmt) -> Result<Stmt, Fault>
+    ensures ok { IfOk result (λ s. s ≡ Stmt.If ((test, statement ∷ []) ∷ []) [] true) }
+    ensures fault { IfErr result (λ e. e ≡ Fault.Memory) }
 {
     let mut statements = Stmts::new(alloc);
     statements.push(statement)?;
@@ -33,12 +34,9 @@ fn if_behind(alloc: Global, test: Expr, statement: Stmt) -> Result<Stmt, AllocEr
 }
 
 /// The statement with the condition behind it, if there is one.
-fn with_condition(
-    alloc: Global,
-    statement: Stmt,
-    condition: Option<Expr>,
-) -> Result<Stmt, AllocError>
-    ensures { IfOk result (λ s. s ≡ conditioned statement condition) }
+fn with_condition(alloc: Global, statement: Stmt, condition: Option<Expr>) -> Result<Stmt, Fault>
+    ensures ok { IfOk result (λ s. s ≡ conditioned statement condition) }
+    ensures fault { IfErr result (λ e. e ≡ Fault.Memory) }
 {
     match condition {
         None => Ok(statement),
@@ -80,5 +78,5 @@ pub fn statement_without_block<'a>(
 {
     let statement = simple_statement(body, locals, cursor)?;
     let condition = perhaps_condition(body, locals, cursor)?;
-    Ok(with_condition(body.alloc, statement, condition)?)
+    with_condition(body.alloc, statement, condition)
 }

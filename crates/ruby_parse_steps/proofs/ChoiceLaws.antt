@@ -23,6 +23,7 @@ use Rattle.ruby_parse_steps.proofs.Descent.{g_give, g_chosen, g_skip, g_lacks, g
 
 -- ---- an expression and what may follow its first value
 module _ (here : Scope) where
+  -- The first operands, and what follows them.
   pub expression_begins : (x : Expr) (ws mid rest : List Word) (r : Result Expr Fault) →
       GivesRule (operators disjunctions here) ws (Ok x) mid → GivesRule (choice_rest here x) mid r rest →
       GivesRule (expression here) ws r rest
@@ -30,6 +31,7 @@ module _ (here : Scope) where
       (expression_from here) ws rest r refl
       (g_then {s = an_expression} (operators disjunctions here) _ x ws mid rest r a g)
 
+  -- A fault in the first operands.
   pub expression_breaks : (e : Fault) (ws rest : List Word) →
       GivesRule (operators disjunctions here) ws (Err e) rest → GivesRule (expression here) ws (Err e) rest
   expression_breaks e ws rest a = g_chosen {s = an_expression} (expression here) (expression_from here) ws rest
@@ -62,6 +64,7 @@ module _ (here : Scope) where
       (g_skip {s = an_expression} is_ask _ mid inside rest r p d
       (λ _. g_then {s = an_expression} (expression here) _ b inside behind rest r v g)))
 
+  -- A fault in the first value of a choice.
   pub choice_breaks : (test : Expr) (e : Fault) (ws mid inside rest : List Word) →
       GivesRule (operators disjunctions here) ws (Ok test) mid → next_is is_ask (head mid) ≡ true →
       inside ≡ drop 1 mid →
@@ -74,6 +77,7 @@ module _ (here : Scope) where
       (λ _. g_fails {s = an_expression} (expression here) _ inside rest e v)))
 
   -- ---- the stack
+  -- Want of memory answers whatever choices were begun.
   pub behind_memory : (opens : List Open) (value : Expr) (ws rest : List Word) →
       Behind here opens value ws (Err f.Memory) rest
   behind_memory [] value ws rest = g_memory {s = an_expression} (give value) ws rest
@@ -127,6 +131,7 @@ module _ (here : Scope) where
       ok_same : (x y : Expr) → ◌≡◌ {A = Result Expr Fault} (Ok x) (Ok y) → x ≡ y
       ok_same x y q = cc
 
+  -- A fault behind the `:` of the choice that was begun last.
   pub test_breaks_behind : (opens all : List Open) (test value : Expr) (e : Fault) (ws rest end : List Word) →
       all ≡ opens ++ begun.Test test ∷ [] →
       next_is is_colon (head ws) ≡ true → rest ≡ drop 1 ws → GivesRule (expression here) rest (Err e) end →
@@ -141,6 +146,7 @@ module _ (here : Scope) where
         (λ v q. (q, refl)),
       )
 
+  -- The choice that was begun last lacks its `:`.
   pub test_lacks_colon : (opens all : List Open) (test value : Expr) (ws : List Word) →
       all ≡ opens ++ begun.Test test ∷ [] → next_is is_colon (head ws) ≡ false →
       BehindLast here all value ws (Err f.Unexpected) ws
@@ -176,11 +182,13 @@ module _ (here : Scope) where
           (subst (λ l. GivesRule (expression here) start (Err e) l) (sym s.1) (err e z w))
 
 -- ---- what ending the choices answers
+-- Without a begun choice the value is the whole.
 pub none_begun : (here : Scope) (opens : List Open) (value : Expr) (ws : List Word) → length opens ≡ 0 →
     BehindLast here opens value ws (Ok value) ws
 none_begun here [] value ws e = g_give {s = an_expression} value ws
 none_begun here (x ∷ xs) value ws e = absurd (omega (arith, e))
 
+-- A missing `:` as the answer of ending choices.
 pub ended_fails : (here : Scope) (opens left : List Open) (value : Expr) (start ws rest : List Word) (e : Fault) →
     rest ≡ ws → e ≡ f.Unexpected → BehindLast here opens value start (Err f.Unexpected) ws →
     GivesEnded here opens value start (Err e) left rest
@@ -188,6 +196,7 @@ ended_fails here opens left value start ws rest e s u h =
     subst (λ x. GivesEnded here opens value start (Err x) left rest) (sym u)
     (subst (λ l. GivesEnded here opens value start (Err f.Unexpected) left l) (sym s) h)
 
+-- Want of memory as the answer of ending choices.
 pub ended_without_memory : (here : Scope) (opens left : List Open) (value : Expr) (start rest : List Word)
     (e : Fault) → e ≡ f.Memory → GivesEnded here opens value start (Err e) left rest
 ended_without_memory here opens left value start rest e u =

@@ -1,4 +1,4 @@
--- Steps of the reading by descent, as the functions of the reader take them.
+-- Steps of the reading by descent, as the functions of the parser take them.
 use Rattle.std.proofs.Common.{◌≡◌, Bool, true, false, List, [], ◌∷◌, drop, refl, sym, ap, ◌∙◌, subst, Result, Ok, Err}
 use Rattle.descent.specs.Grammar.{Prod, give, token, call, only}
 use Rattle.descent.specs.Reading.{take, too_deep, nothing, head, choose, Outcome, done, fault, Why, Unexpected, Deep}
@@ -51,6 +51,7 @@ called_fails rule next ms ws rest why (by_bar e) = by_bar e
 called_fails rule next ms ws rest why (by_nothing e) = by_nothing e
 
 -- ---- faults, as functions answer them
+-- A fault inside a rule.
 pub stops_call : {s v : Sort} (rule : Rule v) (next : Val v → Prod ruby s) (ms : List Mark) (ws rest : List Word)
     (e : Fault) →
     Stops (only rule) ms ws e rest → Stops (call rule next) ms ws e rest
@@ -60,6 +61,7 @@ stops_call rule next ms ws rest f.Barred h = called_fails rule next ms ws rest B
 stops_call rule next ms ws rest (f.Twice at) h = (h.0, called_fails rule next ms ws rest (Twice h.0) h.1, h.2)
 stops_call rule next ms ws rest f.Memory h = tt
 
+-- A fault behind a rule.
 pub stops_behind : {s v : Sort} (rule : Rule v) (next : Val v → Prod ruby s) (ms ns : List Mark)
     (ws mid rest : List Word) (y : Val v) (e : Fault) →
     Comes (only rule) ms ws (done y ns mid) → Stops (next y) ns mid e rest → Stops (call rule next) ms ws e rest
@@ -71,6 +73,7 @@ stops_behind rule next ms ns ws mid rest y (f.Twice at) a h =
     (h.0, called rule next ms ns ws mid y (fault (Twice h.0) rest) a h.1, h.2)
 stops_behind rule next ms ns ws mid rest y f.Memory a h = tt
 
+-- A fault behind a word.
 pub stops_word : {s : Sort} (test : Word → Bool) (next : Word → Prod ruby s) (ms : List Mark) (w : Word)
     (ws rest : List Word) (e : Fault) →
     test w ≡ true → Stops (next w) ms ws e rest → Stops (token test next) ms (w ∷ ws) e rest
@@ -80,6 +83,7 @@ stops_word test next ms w ws rest f.Barred p h = by_word p h
 stops_word test next ms w ws rest (f.Twice at) p h = (h.0, by_word p h.1, h.2)
 stops_word test next ms w ws rest f.Memory p h = tt
 
+-- A fault behind a word, whatever it is.
 pub stops_skips : {s : Sort} (test : Word → Bool) (next : Word → Prod ruby s) (ms : List Mark) (ws rest : List Word)
     (e : Fault) →
     next_is test (head ws) ≡ true → ((w : Word) → Stops (next w) ms (drop 1 ws) e rest) →
@@ -87,6 +91,7 @@ pub stops_skips : {s : Sort} (test : Word → Bool) (next : Word → Prod ruby s
 stops_skips test next ms [] rest e p go = impossible p
 stops_skips test next ms (w ∷ ws) rest e p go = stops_word test next ms w ws rest e p (go w)
 
+-- A fault of the production that is chosen.
 pub stops_chosen : {s : Sort} (rule : Rule s) (p : Prod ruby s) (ms : List Mark) (ws rest : List Word) (e : Fault) →
     choose ruby_choices rule ws ≡ take p → Stops p ms ws e rest → Stops (only rule) ms ws e rest
 stops_chosen rule p ms ws rest f.Unexpected c h = chosen rule p ms ws (fault Unexpected rest) c h
@@ -106,14 +111,17 @@ pub nothing_here : {s : Sort} (rule : Rule s) (ms : List Mark) (ws : List Word) 
 nothing_here rule ms ws c = by_nothing c
 
 -- ---- what functions answer, step by step
+-- A value is given at once.
 pub g_give : {s : Sort} (x : Val s) (ws : List Word) → Gives {s = s} (give x) ws (Ok x) ws
 g_give x ws = λ ms. by_give
 
+-- What the chosen production reads, the rule reads.
 pub g_chosen : {s : Sort} (rule : Rule s) (p : Prod ruby s) (ws rest : List Word) (r : Result (Val s) Fault) →
     choose ruby_choices rule ws ≡ take p → Gives p ws r rest → GivesRule rule ws r rest
 g_chosen rule p ws rest (Ok x) c g = λ ms. chosen rule p ms ws (done x ms rest) c (g ms)
 g_chosen rule p ws rest (Err e) c g = λ ms. stops_chosen rule p ms ws rest e c (g ms)
 
+-- A word that passes, and what follows it.
 pub g_word : {s : Sort} (test : Word → Bool) (next : Word → Prod ruby s) (w : Word) (ws mid rest : List Word)
     (r : Result (Val s) Fault) →
     ws ≡ w ∷ mid → test w ≡ true → Gives (next w) mid r rest → Gives (token test next) ws r rest
@@ -127,6 +135,7 @@ front : (test : Word → Bool) (ws : List Word) → next_is test (head ws) ≡ t
 front test [] p = impossible p
 front test (w ∷ ws) p = (w, refl, p)
 
+-- A word that passes, whatever it is, and what follows it.
 pub g_skip : {s : Sort} (test : Word → Bool) (next : Word → Prod ruby s) (ws mid rest : List Word)
     (r : Result (Val s) Fault) →
     next_is test (head ws) ≡ true → mid ≡ drop 1 ws → ((w : Word) → Gives (next w) mid r rest) →
@@ -135,27 +144,33 @@ g_skip test next ws mid rest r p d go =
     let w = front test ws p in
     g_word test next w.0 ws mid rest r (w.1 ∙ ap (λ l. w.0 ∷ l) (sym d)) w.2 (go w.0)
 
+-- A word that does not pass is a fault.
 pub g_lacks : {s : Sort} (test : Word → Bool) (next : Word → Prod ruby s) (ws : List Word) →
     next_is test (head ws) ≡ false → Gives {s = s} (token test next) ws (Err f.Unexpected) ws
 g_lacks test next ws p = λ ms. token_fails test next ms ws p
 
+-- What a rule reads, and what follows it.
 pub g_then : {s v : Sort} (rule : Rule v) (next : Val v → Prod ruby s) (y : Val v) (ws mid rest : List Word)
     (r : Result (Val s) Fault) →
     GivesRule rule ws (Ok y) mid → Gives (next y) mid r rest → Gives (call rule next) ws r rest
 g_then rule next y ws mid rest (Ok x) a g = λ ms. called rule next ms ms ws mid y (done x ms rest) (a ms) (g ms)
 g_then rule next y ws mid rest (Err e) a g = λ ms. stops_behind rule next ms ms ws mid rest y e (a ms) (g ms)
 
+-- A fault of a rule stops what calls it.
 pub g_fails : {s v : Sort} (rule : Rule v) (next : Val v → Prod ruby s) (ws rest : List Word) (e : Fault) →
     GivesRule rule ws (Err e) rest → Gives {s = s} (call rule next) ws (Err e) rest
 g_fails rule next ws rest e g = λ ms. stops_call rule next ms ws rest e (g ms)
 
+-- No level is left for what is chosen.
 pub g_deep : {s : Sort} (rule : Rule s) (ws : List Word) → choose ruby_choices rule ws ≡ too_deep →
     GivesRule rule ws (Err f.Deep) ws
 g_deep rule ws c = λ ms. by_depth c
 
+-- Nothing begins with the word at hand.
 pub g_nothing : {s : Sort} (rule : Rule s) (ws : List Word) → choose ruby_choices rule ws ≡ nothing →
     GivesRule rule ws (Err f.Unexpected) ws
 g_nothing rule ws c = λ ms. by_nothing c
 
+-- Want of memory is free.
 pub g_memory : {s : Sort} (p : Prod ruby s) (ws rest : List Word) → Gives {s = s} p ws (Err f.Memory) rest
 g_memory p ws rest = λ ms. tt

@@ -20,6 +20,7 @@ module _ {s v : Sort} (outer : Rule s) (rule : Scope → Rule v) (next : Val v �
       GivesRule (rule (at_levels here n)) mid r rest
   within r rest g = subst (λ h. GivesRule (rule h) mid r rest) i g
 
+  -- What stands in brackets, up to the closing one.
   pub enclosed_reads : (y : Val v) (behind rest end : List Word) (r : Result (Val s) Fault) →
       GivesRule (rule inner) mid (Ok y) behind → next_is closes (head behind) ≡ true → rest ≡ drop 1 behind →
       Gives (next y) rest r end → GivesRule outer ws r end
@@ -29,12 +30,14 @@ module _ {s v : Sort} (outer : Rule s) (rule : Scope → Rule v) (next : Val v �
       (λ _. g_then (rule (at_levels here n)) _ y mid behind end r (within (Ok y) behind a)
       (g_skip closes _ behind rest end r q e (λ _. k))))
 
+  -- A fault in brackets.
   pub enclosed_breaks : (e : Fault) (rest : List Word) → GivesRule (rule inner) mid (Err e) rest →
       GivesRule outer ws (Err e) rest
   enclosed_breaks e rest a = g_chosen outer _ ws rest (Err e) c
       (g_skip opens _ ws mid rest (Err e) p d
       (λ _. g_fails (rule (at_levels here n)) _ mid rest e (within (Err e) rest a)))
 
+  -- The closing bracket lacks.
   pub enclosed_lacks_close : (y : Val v) (behind : List Word) → GivesRule (rule inner) mid (Ok y) behind →
       next_is closes (head behind) ≡ false → GivesRule outer ws (Err f.Unexpected) behind
   enclosed_lacks_close y behind a q =

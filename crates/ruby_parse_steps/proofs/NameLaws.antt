@@ -22,11 +22,13 @@ use Rattle.ruby_parse_steps.proofs.EnclosedLaws.{enclosed_reads, enclosed_breaks
 use Rattle.ruby_parse_steps.proofs.PrimaryLaws.{chosen_at}
 
 -- ---- arguments
+-- No level is left for arguments.
 pub arguments_deep : (here : Scope) (ws : List Word) → here.levels ≡ 0 → GivesArguments here ws (Err f.Deep) ws
 arguments_deep here ws l = λ s outer next c. g_deep outer ws (c ∙ ap (λ n. deepen n (arguments_then here next)) l)
 
 module _ (here inner : Scope) (n : ℕ) (ws mid : List Word) (l : here.levels ≡ suc n)
     (p : next_is is_tight_paren (head ws) ≡ true) (d : mid ≡ drop 1 ws) (i : inner ≡ at_levels here n) where
+  -- Arguments in parentheses.
   pub arguments_read : (args : List Expr) (behind rest : List Word) →
       GivesRule (members inner []) mid (Ok args) behind → next_is is_close_paren (head behind) ≡ true →
       rest ≡ drop 1 behind → GivesArguments here ws (Ok args) rest
@@ -34,12 +36,14 @@ module _ (here inner : Scope) (n : ℕ) (ws mid : List Word) (l : here.levels �
       enclosed_reads outer (λ h. members h []) next is_tight_paren is_close_paren here inner n ws mid
       (c ∙ ap (λ m. deepen m (arguments_then here next)) l) p d i args behind rest end r a q e k
 
+  -- A fault in arguments.
   pub arguments_break : (e : Fault) (rest : List Word) → GivesRule (members inner []) mid (Err e) rest →
       GivesArguments here ws (Err e) rest
   arguments_break e rest a = λ s outer next c.
       enclosed_breaks outer (λ h. members h []) next is_tight_paren is_close_paren here inner n ws mid
       (c ∙ ap (λ m. deepen m (arguments_then here next)) l) p d i e rest a
 
+  -- The closing parenthesis of arguments lacks.
   pub arguments_lack_close : (args : List Expr) (behind : List Word) →
       GivesRule (members inner []) mid (Ok args) behind → next_is is_close_paren (head behind) ≡ false →
       GivesArguments here ws (Err f.Unexpected) behind
@@ -47,6 +51,7 @@ module _ (here inner : Scope) (n : ℕ) (ws mid : List Word) (l : here.levels �
       enclosed_lacks_close outer (λ h. members h []) next is_tight_paren is_close_paren here inner n ws mid
       (c ∙ ap (λ m. deepen m (arguments_then here next)) l) p d i args behind a q
 
+-- Want of memory in arguments.
 pub arguments_memory : (here : Scope) (ws rest : List Word) → GivesArguments here ws (Err f.Memory) rest
 arguments_memory here ws rest = λ s outer next c ms. tt
 
@@ -55,22 +60,26 @@ perhaps_chosen : (here : Scope) (ws : List Word) (b : Bool) → next_is is_tight
     choose ruby_choices (perhaps_arguments here) ws ≡ cond b (deepen here.levels (arguments_from here)) (take (give []))
 perhaps_chosen here ws b e = ap (λ b. cond b (deepen here.levels (arguments_from here)) (take (give []))) e
 
+-- Arguments that may stand there, where they do.
 pub perhaps_reads : (here : Scope) (args : List Expr) (ws rest : List Word) → next_is is_tight_paren (head ws)
     ≡ true → GivesArguments here ws (Ok args) rest → GivesRule (perhaps_arguments here) ws (Ok args) rest
 perhaps_reads here args ws rest p g = g some_expressions (perhaps_arguments here) (λ xs. give xs)
     (perhaps_chosen here ws true p) (Ok args) rest (g_give {s = some_expressions} args rest)
 
+-- A fault in arguments that may stand there.
 pub perhaps_breaks : (here : Scope) (e : Fault) (ws rest : List Word) → next_is is_tight_paren (head ws) ≡ true →
     GivesArguments here ws (Err e) rest → GivesRule (perhaps_arguments here) ws (Err e) rest
 perhaps_breaks here e ws rest p g = g some_expressions (perhaps_arguments here) (λ xs. give xs)
     (perhaps_chosen here ws true p)
 
+-- No arguments stand there.
 pub perhaps_none : (here : Scope) (ws : List Word) → next_is is_tight_paren (head ws) ≡ false →
     GivesRule (perhaps_arguments here) ws (Ok []) ws
 perhaps_none here ws p = g_chosen {s = some_expressions} (perhaps_arguments here) (give []) ws ws (Ok [])
     (perhaps_chosen here ws false p) (g_give {s = some_expressions} [] ws)
 
 -- ---- a name and what follows it
+-- A name, and what follows it.
 pub name_reads : (here : Scope) (w : Word) (ws mid rest : List Word) (r : Result Expr Fault) → head_terminal ws ≡ 0 →
     ws ≡ w ∷ mid → is_name w ≡ true → GivesRule (name_rest here w.text) mid r rest → GivesRule (primary here) ws r rest
 name_reads here w ws mid rest r s e n g = g_chosen {s = an_expression} (primary here)
@@ -83,6 +92,7 @@ rest_chosen : (here : Scope) (name : List ℕ) (ws : List Word) (b : Bool) → n
 rest_chosen here name ws b e =
     ap (λ b. cond b (deepen here.levels (call_from here name)) (take (give (name_alone here.names name)))) e
 
+-- A call on self with its arguments.
 pub call_reads : (here : Scope) (name : List ℕ) (args : List Expr) (ws rest : List Word) →
     next_is is_tight_paren (head ws) ≡ true → GivesArguments here ws (Ok args) rest →
     GivesRule (name_rest here name) ws (Ok (expr.Call None name args)) rest
@@ -90,21 +100,25 @@ call_reads here name args ws rest p g = g an_expression (name_rest here name) (�
     (rest_chosen here name ws true p) (Ok (expr.Call None name args)) rest
     (g_give {s = an_expression} (expr.Call None name args) rest)
 
+-- A fault in the arguments of a call on self.
 pub call_breaks : (here : Scope) (name : List ℕ) (e : Fault) (ws rest : List Word) → next_is is_tight_paren (head ws)
     ≡ true → GivesArguments here ws (Err e) rest → GivesRule (name_rest here name) ws (Err e) rest
 call_breaks here name e ws rest p g = g an_expression (name_rest here name) (λ xs. give (expr.Call None name xs))
     (rest_chosen here name ws true p)
 
+-- A name alone.
 pub alone_reads : (here : Scope) (name : List ℕ) (ws : List Word) → next_is is_tight_paren (head ws) ≡ false →
     GivesRule (name_rest here name) ws (Ok (name_alone here.names name)) ws
 alone_reads here name ws p = g_chosen {s = an_expression} (name_rest here name) (give (name_alone here.names name))
     ws ws (Ok (name_alone here.names name)) (rest_chosen here name ws false p)
     (g_give {s = an_expression} (name_alone here.names name) ws)
 
+-- A name that is known is a local variable.
 pub is_local : (here : Scope) (name : List ℕ) → has here.names name ≡ true →
     name_alone here.names name ≡ expr.Local name
 is_local here name e = ap (λ b. cond b (expr.Local name) (expr.Call None name [])) e
 
+-- A name that is not known is a call on self.
 pub is_call : (here : Scope) (name : List ℕ) → has here.names name ≡ false →
     name_alone here.names name ≡ expr.Call None name []
 is_call here name e = ap (λ b. cond b (expr.Local name) (expr.Call None name [])) e

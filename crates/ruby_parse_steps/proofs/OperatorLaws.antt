@@ -38,16 +38,19 @@ postfix_chosen here ws p q =
     (cond (next_is is_minus (head ws)) (deepen here.levels (minus_from here)) (take (only (postfix here))))) p
     ∙ ap (λ b. cond b (deepen here.levels (minus_from here)) (take (only (postfix here)))) q
 
+-- No level is left for `!`.
 pub not_deep : (here : Scope) (ws : List Word) → next_is is_not (head ws) ≡ true → here.levels ≡ 0 →
     GivesRule (unary here) ws (Err f.Deep) ws
 not_deep here ws p e = g_deep {s = an_expression} (unary here) ws (not_chosen here ws p
     ∙ ap (λ n. deepen n (not_from here)) e)
 
+-- No level is left for a unary `-`.
 pub minus_deep : (here : Scope) (ws : List Word) → next_is is_not (head ws) ≡ false →
     next_is is_minus (head ws) ≡ true → here.levels ≡ 0 → GivesRule (unary here) ws (Err f.Deep) ws
 minus_deep here ws p q e = g_deep {s = an_expression} (unary here) ws (minus_chosen here ws p q
     ∙ ap (λ n. deepen n (minus_from here)) e)
 
+-- `!` and its operand.
 pub not_reads : (here inner : Scope) (n : ℕ) (x : Expr) (ws mid rest : List Word) → next_is is_not (head ws) ≡ true →
     here.levels ≡ suc n → inner ≡ at_levels here n → mid ≡ drop 1 ws →
     GivesRule (unary inner) mid (Ok x) rest → GivesRule (unary here) ws (Ok (expr.Not x)) rest
@@ -58,6 +61,7 @@ not_reads here inner n x ws mid rest p l i d g =
     (λ _. g_then {s = an_expression} (unary (at_levels here n)) _ x mid rest rest (Ok (expr.Not x))
     (subst (λ s. GivesRule (unary s) mid (Ok x) rest) i g) (g_give {s = an_expression} (expr.Not x) rest)))
 
+-- A fault behind `!`.
 pub not_breaks : (here inner : Scope) (n : ℕ) (e : Fault) (ws mid rest : List Word) →
     next_is is_not (head ws) ≡ true → here.levels ≡ suc n → inner ≡ at_levels here n → mid ≡ drop 1 ws →
     GivesRule (unary inner) mid (Err e) rest → GivesRule (unary here) ws (Err e) rest
@@ -68,6 +72,7 @@ not_breaks here inner n e ws mid rest p l i d g =
     (λ _. g_fails {s = an_expression} (unary (at_levels here n)) _ mid rest e
     (subst (λ s. GivesRule (unary s) mid (Err e) rest) i g)))
 
+-- A unary `-` and its operand.
 pub minus_reads : (here inner : Scope) (n : ℕ) (x : Expr) (ws mid rest : List Word) →
     next_is is_not (head ws) ≡ false → next_is is_minus (head ws) ≡ true → here.levels ≡ suc n →
     inner ≡ at_levels here n → mid ≡ drop 1 ws →
@@ -80,6 +85,7 @@ minus_reads here inner n x ws mid rest p q l i d g =
     (Ok (expr.Call (Some x) (codes "-@") [])) (subst (λ s. GivesRule (unary s) mid (Ok x) rest) i g)
     (g_give {s = an_expression} (expr.Call (Some x) (codes "-@") []) rest)))
 
+-- A fault behind a unary `-`.
 pub minus_breaks : (here inner : Scope) (n : ℕ) (e : Fault) (ws mid rest : List Word) →
     next_is is_not (head ws) ≡ false → next_is is_minus (head ws) ≡ true → here.levels ≡ suc n →
     inner ≡ at_levels here n → mid ≡ drop 1 ws →
@@ -91,6 +97,7 @@ minus_breaks here inner n e ws mid rest p q l i d g =
     (λ _. g_fails {s = an_expression} (unary (at_levels here n)) _ mid rest e
     (subst (λ s. GivesRule (unary s) mid (Err e) rest) i g)))
 
+-- An operand without `!` and `-`.
 pub unary_is_postfix : (here : Scope) (ws rest : List Word) (r : Result Expr Fault) →
     next_is is_not (head ws) ≡ false → next_is is_minus (head ws) ≡ false →
     GivesRule (postfix here) ws r rest → GivesRule (unary here) ws r rest
@@ -98,6 +105,7 @@ unary_is_postfix here ws rest r p q g = g_chosen {s = an_expression} (unary here
     (postfix_chosen here ws p q) g
 
 -- ---- operators of one level
+-- An expression without operators.
 pub units_are_unary : (level : Level) (here : Scope) (ws rest : List Word) (r : Result Expr Fault) → level ≡ units →
     GivesRule (unary here) ws r rest → GivesRule (operators level here) ws r rest
 units_are_unary level here ws rest r e g = subst (λ l. GivesRule (operators l here) ws r rest) (sym e)
@@ -109,6 +117,7 @@ first_operand : (level : Level) (here : Scope) → (level ≡ units → ⊥) →
 first_operand units here n = absurd (n refl)
 first_operand _ here n = refl
 
+-- The first operand of a level, and what follows it.
 pub operators_begin : (level : Level) (here : Scope) (x : Expr) (ws mid rest : List Word) (r : Result Expr Fault) →
     (level ≡ units → ⊥) →
     GivesRule (operators (tighter level) here) ws (Ok x) mid → GivesRule (more_operators level here x) mid r rest →
@@ -118,6 +127,7 @@ operators_begin level here x ws mid rest r n a g =
     (subst (λ p. Gives p ws r rest) (sym (first_operand level here n))
     (g_then {s = an_expression} (operators (tighter level) here) _ x ws mid rest r a g))
 
+-- A fault in the first operand of a level.
 pub operators_break : (level : Level) (here : Scope) (e : Fault) (ws rest : List Word) → (level ≡ units → ⊥) →
     GivesRule (operators (tighter level) here) ws (Err e) rest → GivesRule (operators level here) ws (Err e) rest
 operators_break level here e ws rest n a =
@@ -154,6 +164,7 @@ operator_reads level here w x y z ws mid behind rest r e p o a g =
     (g_then {s = an_expression} (operators (tighter level) here) _ y mid behind rest r a
     (subst (λ v. Gives (operators_behind (repeats level) level here v) behind r rest) o g)))
 
+-- A fault in the second operand of an operator.
 pub operator_breaks : (level : Level) (here : Scope) (w : Word) (x : Expr) (e : Fault) (ws mid rest : List Word) →
     ws ≡ w ∷ mid → is_operator level w ≡ true → GivesRule (operators (tighter level) here) mid (Err e) rest →
     GivesRule (more_operators level here x) ws (Err e) rest
@@ -163,6 +174,7 @@ operator_breaks level here w x e ws mid rest q p a =
     (g_word {s = an_expression} (is_operator level) _ w ws mid rest (Err e) q p
     (g_fails {s = an_expression} (operators (tighter level) here) _ mid rest e a))
 
+-- No operator of the level is at hand, so the expression ends.
 pub operators_end : (level : Level) (here : Scope) (x : Expr) (ws : List Word) →
     next_is (is_operator level) (head ws) ≡ false → GivesRule (more_operators level here x) ws (Ok x) ws
 operators_end level here x ws p = g_chosen {s = an_expression} (more_operators level here x) (give x) ws ws (Ok x)

@@ -73,6 +73,7 @@ with_path top (Some m) ms first path ws rest (fault (Twice m') rest') g (by_clas
     called_fails (path_rest true (Some m) first) _ ms ws rest (Twice m)
     (g (Some m) ms (fault (Twice m) rest) (by_clash e))
 
+-- A constant, and what follows its first name.
 pub constant_reads : (top : Bool) (w : Word) (names path : List (List ℕ)) (ws mid rest : List Word) →
     ws ≡ w ∷ mid → is_const w ≡ true → names ≡ w.text ∷ [] → GivesPathRest names mid (Ok path) rest →
     GivesConstantFrom top ws (Ok (ref_of top path)) rest
@@ -81,6 +82,7 @@ constant_reads top w names path ws mid rest e c n g = λ ending ms o h.
     (by_word c (subst (λ l. Comes (call (path_rest true ending l) (λ names. give (ref_of top names))) ms mid o) n
     (with_path top ending ms names path mid rest o g h)))
 
+-- A fault behind the first name of a constant.
 pub constant_breaks : (top : Bool) (w : Word) (names : List (List ℕ)) (ws mid rest : List Word) (e : Fault) →
     ws ≡ w ∷ mid → is_const w ≡ true → names ≡ w.text ∷ [] → GivesPathRest names mid (Err e) rest →
     GivesConstantFrom top ws (Err e) rest
@@ -113,6 +115,7 @@ none_chosen ending ws e c =
     (cond (next_is is_const (head ws)) (take (constant_from false ending)) nothing)) e
     ∙ ap (λ b. cond b (take (constant_from false ending)) nothing) c
 
+-- A constant with `::` before it.
 pub top_constant : (ws mid rest : List Word) (r : Result ConstRef Fault) → next_is is_path (head ws) ≡ true →
     mid ≡ drop 1 ws → GivesConstantFrom true mid r rest → GivesConstant ws r rest
 top_constant ws mid rest (Ok c) p d g = λ ending ms o h.
@@ -125,6 +128,7 @@ top_constant ws mid rest (Err e) p d g = λ ending ms.
     (stops_skips is_path _ ms ws rest e p
     (λ _. subst (λ l. Stops (constant_from true ending) ms l e rest) d (g ending ms)))
 
+-- A constant without `::` before it.
 pub plain_constant : (ws rest : List Word) (r : Result ConstRef Fault) → next_is is_path (head ws) ≡ false →
     next_is is_const (head ws) ≡ true → GivesConstantFrom false ws r rest → GivesConstant ws r rest
 plain_constant ws rest (Ok c) p k g = λ ending ms o h. chosen (constant ending) (constant_from false ending) ms ws o
@@ -132,11 +136,13 @@ plain_constant ws rest (Ok c) p k g = λ ending ms o h. chosen (constant ending)
 plain_constant ws rest (Err e) p k g = λ ending ms. stops_chosen (constant ending) (constant_from false ending) ms ws
     rest e (plain_chosen ending ws p k) (g ending ms)
 
+-- No constant is at hand.
 pub no_constant : (ws : List Word) → next_is is_path (head ws) ≡ false → next_is is_const (head ws) ≡ false →
     GivesConstant ws (Err f.Unexpected) ws
 no_constant ws p k = λ ending ms. by_nothing (none_chosen ending ws p k)
 
 -- ---- lengths, and faults as functions answer them
+-- Behind two words no more words are left than before.
 pub shorter_rest : (ws mid rest : List Word) (w : Word) (n : ℕ) → mid ≡ drop 1 ws → mid ≡ w ∷ rest → length ws ≤ n →
     length rest ≤ n
 shorter_rest ws mid rest w n d e h =
@@ -144,12 +150,14 @@ shorter_rest ws mid rest w n d e h =
     let b : length mid ≡ length (w ∷ rest) = ap length e in
     omega (arith, a, b, h)
 
+-- Behind two words fewer words are left.
 pub smaller_rest : (ws mid rest : List Word) (w : Word) → mid ≡ drop 1 ws → mid ≡ w ∷ rest → length rest < length ws
 smaller_rest ws mid rest w d e =
     let a : length mid ≡ length ws - 1 = ap length d ∙ length-drop 1 ws in
     let b : length mid ≡ length (w ∷ rest) = ap length e in
     omega (arith, a, b)
 
+-- A `::` with no constant behind it.
 pub path_fails : (first names : List (List ℕ)) (start ws mid rest : List Word) (e : Fault) →
     ((ending : Option Mark) (ms : List Mark) (o : Outcome ruby some_names) →
     Comes (only (path_rest true ending names)) ms ws o → Comes (only (path_rest true ending first)) ms start o) →
@@ -160,6 +168,7 @@ path_fails first names start ws mid rest e go p d s c u =
     (subst (λ l. GivesPathRest first start (Err f.Unexpected) l) (sym s)
     (λ ending ms. go ending ms (fault Unexpected mid) (path_breaks ending ms names ws mid p d c)))
 
+-- No constant is at hand where one must stand.
 pub constant_fails : (top : Bool) (ws rest : List Word) (e : Fault) → rest ≡ ws →
     next_is is_const (head ws) ≡ false → e ≡ f.Unexpected → GivesConstantFrom top ws (Err e) rest
 constant_fails top ws rest e s c u =

@@ -1,4 +1,4 @@
--- How primaries are chosen by the sign of their first word, and read.
+-- How primaries are chosen by the terminal of their first word, and read.
 use Rattle.std.proofs.Common.{◌≡◌, ℕ, Bool, true, false, ◌==◌, ◌||◌, cond, List, [], ◌∷◌, drop, refl, sym, ap, ◌∙◌}
 use Rattle.std.proofs.Common.{subst, arith, Ok, Err, ⊎_elim}
 use Rattle.std.proofs.lemmas.Bool.{cases_Bool, cond-false}
@@ -27,8 +27,8 @@ other_at here n =
     (cond (n == 91) (deepen here.levels (group_from here))
     nothing)))
 
--- what is chosen where the first word has this sign
-abbrev primary_at : Scope → ℕ → Choice ruby an_expression
+-- what is chosen where the first word has this terminal
+abbrev pub primary_at : Scope → ℕ → Choice ruby an_expression
 primary_at here n =
     cond (n == 55) (take (token is_int λ w. give (expr.Int (number_of w.text))))
     (cond (n == 56) (take (text_from here))
@@ -44,12 +44,13 @@ primary_at here n =
 wrong : {A : Type 0} → (98 == 98) ≡ false → A
 wrong e = cc
 
+-- What is chosen for a primary, by the terminal at hand.
 pub chosen_at : (here : Scope) (ws : List Word) (n : ℕ) (c : Choice ruby an_expression) → head_terminal ws ≡ n →
     (98 == n) ≡ false → primary_at here n ≡ c → choose ruby_choices (primary here) ws ≡ c
 chosen_at here [] n c e o h = wrong (subst (λ m. (98 == m) ≡ false) (sym e) o)
 chosen_at here (w ∷ ws) n c e o h = subst (λ m. primary_at here m ≡ c) (sym e) h
 
--- the first word has this sign
+-- the first word has this terminal
 pub sees : (ws : List Word) (n : ℕ) → head_terminal ws ≡ n → (98 == n) ≡ false → next_is (is n) (head ws) ≡ true
 sees [] n e o = wrong (subst (λ m. (98 == m) ≡ false) (sym e) o)
 sees (w ∷ ws) n e o = subst (λ m. (m == n) ≡ true) (sym e) (self n)
@@ -88,6 +89,7 @@ neither : (a b : Bool) → (a || b) ≡ false → (a ≡ false) × (b ≡ false)
 neither true b e = absurd (cc)
 neither false b e = (refl, e)
 
+-- No primary begins with the terminal at hand.
 pub primary_none : (here : Scope) (n : ℕ) → nests n ≡ false → (n ≡ 55 → ⊥) → (n ≡ 54 → ⊥) → (n ≡ 52 → ⊥) →
     (n ≡ 12 → ⊥) → (n ≡ 13 → ⊥) → (n ≡ 14 → ⊥) → (n ≡ 11 → ⊥) → primary_at here n ≡ nothing
 primary_none here n h int sym' ivar nil yes' no' self =
@@ -112,6 +114,7 @@ primary_none here n h int sym' ivar nil yes' no' self =
     ∙ cond-false (n == 95) _ _ k.1
     ∙ cond-false (n == 91) _ _ l.0
 
+-- Where no primary is at hand, that is a fault.
 pub no_primary : (here : Scope) (n : ℕ) (ws : List Word) → head_terminal ws ≡ n → primary_at here n ≡ nothing →
     GivesRule (primary here) ws (Err f.Unexpected) ws
 no_primary here n [] e h = g_nothing {s = an_expression} (primary here) [] refl

@@ -1,4 +1,4 @@
--- What the functions of the reader by descent answer.
+-- What the functions of the parser answer.
 use Rattle.std.specs.Prelude.{◌≡◌, ℕ, Bool, true, List, Option, Some, None, Result, Ok, Err}
 use Rattle.descent.specs.Grammar.{Prod, give, mark, only}
 use Rattle.descent.specs.Reading.{Outcome, done, fault, Unexpected, Deep, Barred, Twice, Reads}

@@ -1,4 +1,4 @@
--- How a primary is chosen by the sign of its first word.
+-- How a primary is chosen by the terminal of its first word.
 use Rattle.std.specs.Prelude.{◌≡◌, ℕ, Bool, false, ◌==◌, ◌||◌, List, [], ◌∷◌, Result, Ok, Err}
 use Rattle.descent.specs.Grammar.{Prod, token, call}
 use Rattle.descent.specs.Reading.{choose}

@@ -56,6 +56,7 @@ next_rises (x ∷ y ∷ rows) (suc i) (suc n) r s e h a b = next_rises (y ∷ ro
 words_rise : rises word_rows ≡ true
 words_rise = refl
 
+-- No fault can be told of the words.
 pub words_make_a_table : (fault : CaseFault) → ¬ (IsFault word_rows fault)
 words_make_a_table (NotRising n) f =
     f.falls (next_rises word_rows f.before n f.earlier f.later f.next words_rise f.earlier_at f.later_at)

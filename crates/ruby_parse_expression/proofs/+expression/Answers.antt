@@ -2,7 +2,8 @@ use Rattle.std.proofs.Common.{◌≤◌, ◌∙◌, ◌∷◌, ◌++◌, [], len
 use Rattle.std.proofs.lemmas.Result.{err_from_is_err_and}
 use Rattle.descent.specs.Grammar.{give}
 use Rattle.ruby_types.specs.declared.tree.Expr.TheVariants as expr
-use Rattle.ruby_grammar.specs.Signs.{units, disjunctions, is_comma, is_ask, is_tight_paren, is_close_paren, is_tight_bracket}
+use Rattle.ruby_grammar.specs.Signs.{units, disjunctions, is_comma, is_ask, is_tight_paren, is_close_paren}
+use Rattle.ruby_grammar.specs.Signs.{is_tight_bracket}
 use Rattle.ruby_grammar.specs.Signs.{is_open_bracket, is_close_bracket, is_open_brace, is_close_brace, is_open_paren}
 use Rattle.ruby_grammar.specs.Signs.{is_inside_open, is_inside_close}
 use Rattle.ruby_grammar.specs.Rules as rules
@@ -10,7 +11,8 @@ use Rattle.ruby_grammar.specs.Values.{name_alone}
 use Rattle.ruby_parse_cursor.specs.declared.fault.Fault.TheVariants as f
 use Rattle.ruby_parse_cursor.specs.Views.{word_view, expression_terminal}
 use Rattle.ruby_parse_steps.specs.Levels.{level_view, is_operator_terminal, is_any_operator}
-use Rattle.ruby_parse_steps.proofs.LevelLaws.{level_reads, level_breaks, level_within, levels_fall, breaks_at_looser, ends_at_looser}
+use Rattle.ruby_parse_steps.proofs.LevelLaws.{level_reads, level_breaks, level_within, levels_fall, breaks_at_looser}
+use Rattle.ruby_parse_steps.proofs.LevelLaws.{ends_at_looser}
 use Rattle.ruby_parse_steps.proofs.LevelLaws.{ends_at_level}
 use Rattle.ruby_parse_steps.specs.Opens.{BehindLast}
 use Rattle.ruby_parse_steps.specs.Scopes.{scope_view}
@@ -135,7 +137,8 @@ arguments::pairs-returns-in_err-pair-clause-reads t c =
     let p = err_from_is_err_and c.from_residual.result c.from_residual.ensures.1 in
     rw (p.1) (c.pairs.invariant.goes_on (Err p.0) c.pair.new.cursor
     (pair_breaks (scope_view c.args.scope) c.pairs.list p.0 c.pairs.cursor c.pair.new.cursor
-    (pair_at c.pairs.cursor ∙ (sym (c.starts_pair.ensures ∙ ap pair_terminal c.peek_terminal.ensures) ∙ c.pairs-test.true))
+    (pair_at c.pairs.cursor ∙ (sym (c.starts_pair.ensures ∙ ap pair_terminal c.peek_terminal.ensures)
+    ∙ c.pairs-test.true))
     (fails {s = rules.a_pair} (rules.pair (scope_view c.args.scope)) c.pairs.cursor c.pair.new.cursor
     c.pair.new.cursor _ p.0 refl p.2 c.in_err-pair.ensures.reads)))
 
@@ -144,7 +147,8 @@ arguments::pairs-returns-then-not-sees-clause-reads t c =
     c.pairs.invariant.goes_on (Ok c.push.new.self) c.pair.new.cursor
     (pair_last (scope_view c.args.scope) c.pairs.list c.push.new.self c.in_ok-pair.field-0 c.pairs.cursor
     c.pair.new.cursor (pair_at c.pairs.cursor
-    ∙ (sym (c.starts_pair.ensures ∙ ap pair_terminal c.peek_terminal.ensures) ∙ c.pairs-test.true)) c.in_ok-pair.ensures.reads
+    ∙ (sym (c.starts_pair.ensures ∙ ap pair_terminal c.peek_terminal.ensures) ∙ c.pairs-test.true))
+    c.in_ok-pair.ensures.reads
     c.in_ok-push.ensures.ok (sym c.sees.ensures ∙ c.if-not-sees.true))
 
 pub arguments::pairs-pairs-preserved : goal.arguments::pairs-pairs-preserved
@@ -221,8 +225,10 @@ operators::expression-returns-in-Some-clause-reads t c =
 
 pub operators::expression-values-preserved : goal.operators::expression-values-preserved
 operators::expression-values-preserved t c =
-    let h = ended_inside (scope_view c.args.scope) c.values.opens.items c.end_choices.new.opens.items c.in_ok-value.value
-    c.operators.new.cursor c.end_choices.new.cursor c.in_ok-value-2.field-0 c.in-None.is c.in_ok-value-2.ensures.reads in
+    let h = ended_inside (scope_view c.args.scope) c.values.opens.items c.end_choices.new.opens.items
+    c.in_ok-value.value
+    c.operators.new.cursor c.end_choices.new.cursor c.in_ok-value-2.field-0 c.in-None.is
+    c.in_ok-value-2.ensures.reads in
     record {
       goes_on = λ v m s z g k. c.values.invariant.goes_on c.in_ok-value.value c.operators.new.cursor s z
           (plain_expression (scope_view c.args.scope) c.in_ok-value.value c.values.cursor c.operators.new.cursor
@@ -295,7 +301,8 @@ operators::operators-levels-smaller t c =
 pub operators::more_operators-take_word-requires : goal.operators::more_operators-take_word-requires
 operators::more_operators-take_word-requires t c =
     operator_bound (level_view c.args.level) c.peek_terminal-terminal.result
-    (ap (is_operator_terminal (level_view c.args.level)) (c.peek_terminal-terminal.ensures ∙ sym c.peek_terminal.ensures)
+    (ap (is_operator_terminal (level_view c.args.level)) (c.peek_terminal-terminal.ensures
+    ∙ sym c.peek_terminal.ensures)
     ∙ (sym c.has.ensures ∙ c.operands-test.true))
 
 pub operators::more_operators-returns-in_err-y-clause-reads :
@@ -766,7 +773,8 @@ primary::postfix-returns-clause-reads t c =
     (part_ends (scope_view c.args.scope) c.calls.x c.calls.cursor c.perhaps_postfix.new.cursor
     c.in_ok-part.field-0 c.in_default.is c.in_ok-part.ensures.reads)
 
-pub primary::perhaps_postfix-returns-else-sees_tight-clause-reads : goal.primary::perhaps_postfix-returns-else-sees_tight-clause-reads
+pub primary::perhaps_postfix-returns-else-sees_tight-clause-reads :
+    goal.primary::perhaps_postfix-returns-else-sees_tight-clause-reads
 primary::perhaps_postfix-returns-else-sees_tight-clause-reads t c = λ x.
     postfix_ends (scope_view c.args.scope) x c.args.cursor.now (sym c.sees.ensures ∙ c.if-sees.false)
     (sym c.sees_tight.ensures ∙ c.if-sees_tight.false)
@@ -775,7 +783,8 @@ pub primary::primary-returns-in_err-constant-in-51-clause-reads :
     goal.primary::primary-returns-in_err-constant-in-51-clause-reads
 primary::primary-returns-in_err-constant-in-51-clause-reads t c =
     let p = err_from_is_err_and c.from_residual.result c.from_residual.ensures.1 in
-    rw (p.1) (constant_breaks (scope_view c.args.scope) c.peek_terminal.result c.args.cursor.now (sym c.peek_terminal.ensures)
+    rw (p.1) (constant_breaks (scope_view c.args.scope) c.peek_terminal.result c.args.cursor.now
+    (sym c.peek_terminal.ensures)
     (first_of (assumption c.in-51.is, search (arith, c.in-51.is))) p.0 c.constant.new.cursor
     (constant_fails c.args.cursor.now c.constant.new.cursor _ p.0 p.2 c.in_err-constant-in-51.ensures.reads))
 

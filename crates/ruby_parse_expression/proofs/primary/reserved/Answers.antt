@@ -1,37 +1,31 @@
-use Rattle.std.proofs.Common.{◌≡◌, ◌∙◌, Some, ap, sym, subst, refl, rules}
+use Rattle.std.proofs.Common.{◌≡◌, ◌∙◌, Some, ap, refl, rules}
 use Rattle.ruby_types.specs.declared.tree.Expr.TheVariants as expr
-use Rattle.ruby_grammar.specs.Rules.{primary}
 use Rattle.ruby_parse_cursor.specs.Views.{code_view}
-use Rattle.ruby_parse_cursor.proofs.CodeLaws.{code_is}
-use Rattle.ruby_parse_steps.specs.Gives.{GivesRule}
-use Rattle.ruby_parse_steps.proofs.PrimaryLaws.{word_reads, primary_none, no_primary}
+use Rattle.ruby_parse_steps.proofs.PrimaryLaws.{primary_none, no_primary}
+use Rattle.ruby_parse_expression.proofs.ReservedLaws.{reserved_reads}
 use Rattle.ruby_parse_expression.proofs.primary.reserved.Goals as goal
 use Rattle.ruby_parse_expression.proofs.primary.reserved.Goals.{in_default-via-in-Some+in_default-1}
 use Rattle.ruby_parse_expression.proofs.primary.reserved.Goals.{in_default-via-in-None-1}
 
 pub returns-in-Some-eq12-cases-clause-reads : goal.returns-in-Some-eq12-cases-clause-reads
 returns-in-Some-eq12-cases-clause-reads c = λ here.
-    subst (λ r. GivesRule (primary here) c.args.cursor.now r c.passed.new.cursor) (sym c.passed.ensures.value)
-    (word_reads here 12 expr.Nil c.args.cursor.now c.passed.new.cursor (code_is _ 12 (sym c.peek_code.ensures ∙ (cc)))
-    refl refl c.passed.ensures.passed)
+    reserved_reads here 12 expr.Nil c.args.cursor.now c.passed.new.cursor c.passed.result c.peek_code.result
+    c.peek_code.ensures (cc) refl refl c.passed.ensures.value c.passed.ensures.passed
 
 pub returns-in-Some-eq13-cases-clause-reads : goal.returns-in-Some-eq13-cases-clause-reads
 returns-in-Some-eq13-cases-clause-reads c = λ here.
-    subst (λ r. GivesRule (primary here) c.args.cursor.now r c.passed-2.new.cursor) (sym c.passed-2.ensures.value)
-    (word_reads here 13 expr.True c.args.cursor.now c.passed-2.new.cursor (code_is _ 13 (sym c.peek_code.ensures ∙ (cc)))
-    refl refl c.passed-2.ensures.passed)
+    reserved_reads here 13 expr.True c.args.cursor.now c.passed-2.new.cursor c.passed-2.result c.peek_code.result
+    c.peek_code.ensures (cc) refl refl c.passed-2.ensures.value c.passed-2.ensures.passed
 
 pub returns-in-Some-eq14-cases-clause-reads : goal.returns-in-Some-eq14-cases-clause-reads
 returns-in-Some-eq14-cases-clause-reads c = λ here.
-    subst (λ r. GivesRule (primary here) c.args.cursor.now r c.passed-3.new.cursor) (sym c.passed-3.ensures.value)
-    (word_reads here 14 expr.False c.args.cursor.now c.passed-3.new.cursor (code_is _ 14 (sym c.peek_code.ensures ∙ (cc)))
-    refl refl c.passed-3.ensures.passed)
+    reserved_reads here 14 expr.False c.args.cursor.now c.passed-3.new.cursor c.passed-3.result c.peek_code.result
+    c.peek_code.ensures (cc) refl refl c.passed-3.ensures.value c.passed-3.ensures.passed
 
 pub returns-in-Some-eq11-cases-clause-reads : goal.returns-in-Some-eq11-cases-clause-reads
 returns-in-Some-eq11-cases-clause-reads c = λ here.
-    subst (λ r. GivesRule (primary here) c.args.cursor.now r c.passed-4.new.cursor) (sym c.passed-4.ensures.value)
-    (word_reads here 11 expr.SelfRef c.args.cursor.now c.passed-4.new.cursor
-    (code_is _ 11 (sym c.peek_code.ensures ∙ (cc))) refl refl c.passed-4.ensures.passed)
+    reserved_reads here 11 expr.SelfRef c.args.cursor.now c.passed-4.new.cursor c.passed-4.result c.peek_code.result
+    c.peek_code.ensures (cc) refl refl c.passed-4.ensures.value c.passed-4.ensures.passed
 
 -- the code is none of the four
 pub returns-in_default-clause-reads : goal.returns-in_default-clause-reads

@@ -7,7 +7,8 @@ use Rattle.ruby_parse_statement.proofs.simple.set_local.Goals as goal
 pub returns-in_err-word-clause-reads : goal.returns-in_err-word-clause-reads
 returns-in_err-word-clause-reads c =
     let p = err_from_is_err_and c.from_residual.result c.from_residual.ensures.1 in
-    rw (p.1, p.2) (no_variable (around_view c.args.body c.args.locals.now) _ c.args.cursor.now c.take_variable.new.cursor
+    rw (p.1, p.2) (no_variable (around_view c.args.body c.args.locals.now) _ c.args.cursor.now
+    c.take_variable.new.cursor
     c.in_err-word.ensures.stays c.in_err-word.ensures.other c.in_err-word.ensures.fault)
 
 pub returns-in_err-take-clause-reads : goal.returns-in_err-take-clause-reads
