@@ -1,4 +1,4 @@
-use Rattle.std.proofs.Common.{[], ◌∷◌, All, arith}
+use Rattle.std.proofs.Common.{[], ◌∷◌, arith}
 use Rattle.std.proofs.lemmas.List.Elements.{All-cons, All-append}
 use Rattle.outside.specs.Tree.{IsSized}
 use Rattle.outside.specs.Watched.{IsWatched}
