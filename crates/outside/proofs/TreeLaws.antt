@@ -7,7 +7,7 @@ use Rattle.std.proofs.lemmas.List.Elements.{All-cons, All-head, All-tail, All-ap
 use Rattle.std.proofs.lemmas.List.Elements.{All-contains, All-contains_itself, Contains-get_or, Contains-push_cases}
 use Rattle.outside.specs.Order.{Rising}
 use Rattle.outside.specs.Watched.{IsWatched, ListsWatched}
-use Rattle.outside.specs.Tree.{Given, IsKnown, IsSized, AgreesOnStamps, HoldsWatched, paths_of, stamps_of}
+use Rattle.outside.specs.Tree.{Given, IsKnown, AgreesOnStamps, paths_of, stamps_of}
 use Rattle.outside.specs.Table.{files_before, files_after, with_file, without_file}
 use Rattle.outside.specs.MemTree.{TreeState}
 use Rattle.outside.specs.Glance.{given_of, IsSeen, IsNumbered}

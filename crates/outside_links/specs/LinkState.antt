@@ -1,6 +1,6 @@
 -- Links: one that was not used yet, and what contracts see of one in memory.
 use Rattle.std.specs.Prelude.{◌≡◌, ℕ, List, [], Option, Bool, IfSome}
-use Rattle.outside.specs.CallState.{CallState, uncalled}
+use Rattle.outside.specs.CallState.{CallState}
 
 -- Nothing was read from the link or written to it, as far as it tells, and no call of it failed.
 pub record IsUnused (read_faults write_faults : ℕ) (was_read was_written : Option (List ℕ)) : Type 0 where

@@ -1,7 +1,7 @@
-use Rattle.std.proofs.Common.{◌≡◌, List, [], ◌∷◌, ◌++◌, All, refl, arith}
+use Rattle.std.proofs.Common.{[], ◌∷◌, arith}
 use Rattle.std.proofs.lemmas.List.Elements.{All-cons, All-append}
-use Rattle.outside.specs.Tree.{IsSized, paths_of}
-use Rattle.outside.specs.Watched.{IsWatched, ListsWatched}
+use Rattle.outside.specs.Tree.{IsSized}
+use Rattle.outside.specs.Watched.{IsWatched}
 use Rattle.outside.specs.declared.files.FileEntry.{FileEntry}
 use Rattle.outside_real.specs.Ordered.{IsBehindLast}
 use Rattle.outside_real.proofs.OrderedLaws.{added_listed}
