@@ -10,17 +10,17 @@ use std::alloc::{AllocError, Global};
 /// with a value; a request has one reply on a program. What is true of these stands in `Facts`, for contracts alone, so
 /// that nothing of a language is known where events are.
 pub trait Matter {
-    type Task;
+    type Task: Drop;
 
-    type Value;
+    type Value: Drop;
     /// A handle that can be shared.
-    type Program;
+    type Program: Drop;
 
-    type Request;
+    type Request: Drop;
 
-    type Reply;
+    type Reply: Drop;
     /// Why a snapshot gives no program.
-    type Fault;
+    type Fault: Drop;
 
     // What is true of them.
     ghost facts: { Facts Self.Task Self.Value Self.Program Self.Request Self.Reply Self.Fault };

@@ -1,0 +1,9 @@
+use Rattle.std.proofs.Common.{sym, ap, ◌∙◌, is_some}
+use Rattle.system_core.proofs.Finding.{is_in_lookup, map_some}
+use Rattle.system_core.proofs.system.System.is_defined.Goals as goal
+
+pub returns : goal.returns
+returns g c =
+    c.is_some.ensures
+    ∙ (sym (map_some (λ value. value.now) c.value.result)
+    ∙ (ap is_some c.value.ensures ∙ is_in_lookup g.M.Matter.facts c.args.task.now c.args.self.now.state.table))
