@@ -17,14 +17,6 @@
 #![tactic(auto)]
 
 mod case;
-#[cfg(test)]
-mod configurations;
-#[cfg(test)]
-mod limits;
-#[cfg(test)]
-mod speed;
-#[cfg(test)]
-mod trees;
 
 use crate::case::Case;
 use std::alloc::Global;

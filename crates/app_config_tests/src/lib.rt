@@ -1,0 +1,7 @@
+//! Cases of configurations.
+#![tactic(auto)]
+
+#[cfg(test)]
+mod shown;
+#[cfg(test)]
+mod tests;

@@ -1,0 +1,5 @@
+//! What is said of applications, on examples.
+#![tactic(auto)]
+
+#[cfg(test)]
+mod tests;
