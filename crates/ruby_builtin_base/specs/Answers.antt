@@ -36,19 +36,21 @@ raised class message = called.Raised (record { class = class; message = message;
 abbrev pub within : ℕ → ℕ → Called → Called
 within left cost answer = if nat_le cost left then answer else raised class.TurnBudget []
 
--- What a call of a row answers: a value with its cost; an error, whose own size counts nothing.
+-- What a call answers whose row comes to this, with so many turns left: a value with its cost; an error, whose own
+-- size counts nothing.
+abbrev pub called_of : ℕ → Value → List ℕ → List Value → Answer → Called
+called_of left on name args (Gives value) =
+    within left (cost (call_sizes on args) (size value)) (called.Value value (cost (call_sizes on args) (size value)))
+called_of left on name args (Raises class message) =
+    within left (cost (call_sizes on args) 0) (raised class message)
+called_of left on name args WrongArgument =
+    within left (cost (call_sizes on args) 0) (raised class.Kind (wrong_argument_text name))
+called_of left on name args (WrongCount expected) =
+    within left (cost (call_sizes on args) 0) (raised class.Argument (wrong_count_text (length args) expected))
+
+-- the same of a call
 abbrev pub answered : Call → Answer → Called
-answered call (Gives value) =
-    within call.left (cost (call_sizes call.on.now call.args.now) (size value))
-    (called.Value value (cost (call_sizes call.on.now call.args.now) (size value)))
-answered call (Raises class message) =
-    within call.left (cost (call_sizes call.on.now call.args.now) 0) (raised class message)
-answered call WrongArgument =
-    within call.left (cost (call_sizes call.on.now call.args.now) 0)
-    (raised class.Kind (wrong_argument_text call.name.now))
-answered call (WrongCount expected) =
-    within call.left (cost (call_sizes call.on.now call.args.now) 0)
-    (raised class.Argument (wrong_count_text (length call.args.now) expected))
+answered call answer = called_of call.left call.on.now call.name.now call.args.now answer
 
 -- What a call answers whose name this row has, a function of the receiver and the arguments. A method that no row has
 -- costs nothing.

@@ -7,6 +7,7 @@ use ruby_types::{Value, size};
 use std::alloc::Global;
 
 /// A call of a built-in method: its receiver, its name, its arguments, and the turns that are left.
+#[derive(Drop)]
 pub struct Call<'a> {
     pub alloc: Global,
     pub on: &'a Value,

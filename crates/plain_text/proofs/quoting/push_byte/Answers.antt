@@ -1,4 +1,4 @@
-use Rattle.plain_text.proofs.EscapeLaws.{escaped_here, escaped_nowhere}
+use Rattle.plain_text.proofs.EscapeLaws.{escaped_nowhere}
 use Rattle.std.proofs.Common.{arith}
 use Rattle.plain_text.proofs.quoting.push_byte.Goals as goal
 
