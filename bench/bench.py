@@ -4,7 +4,8 @@
 Run by hand:   bench/bench.py [--program PATH] [--runs N] [--only WORD] [--no-instructions] [--keep FOLDER]
 
 Each application is made in a temporary folder. A row is one command on one application: the least wall time of some runs,
-that of Ruby doing the like, how many times as long Ruby took, and, where valgrind is installed, the instructions of both.
+that of Ruby doing the like, how many times as long Ruby took, and, where valgrind is installed, the instructions of both
+and their ratio.
 Ruby's work beside `tree` and beside `get` is the same: Zeitwerk sets up the application's roots and loads all of its files,
 since `get` reads all files, and `tree` walks all folders. Ruby starts its interpreter in each run; the first row tells what
 that takes. What it can't load (a syntax fault) is left out.
@@ -187,7 +188,8 @@ def measure(name, make, words, options, ruby):
         cells = [name, ' '.join(words), str(status), cell(own, '{:.3f}'), cell(other, '{:.3f}'),
                  cell(other / own if other and own else None, '{:.2f}'),
                  cell(count / 1e6 if count else None, '{:,.0f}'),
-                 cell(ruby_count / 1e6 if ruby_count else None, '{:,.0f}')]
+                 cell(ruby_count / 1e6 if ruby_count else None, '{:,.0f}'),
+                 cell(ruby_count / count if ruby_count and count else None, '{:.2f}')]
         print('| ' + ' | '.join(cells) + ' |', flush=True)
     finally:
         if not options.keep:
@@ -209,8 +211,8 @@ def main():
     ruby = has_zeitwerk()
     if not ruby:
         print('Ruby with the gem zeitwerk is not installed: its columns stay empty', file=sys.stderr)
-    print('| Application | Command | Status | Seconds | Ruby | Ruby / program | Instructions, millions | Ruby |')
-    print('|---|---|---|---|---|---|---|---|')
+    print('| Application | Command | Status | Seconds | Ruby | Ratio | Instructions, millions | Ruby | Ratio |')
+    print('|---|---|---|---|---|---|---|---|---|')
     for name, make, words in CASES:
         if options.only in name:
             measure(name, make, words, options, ruby)
