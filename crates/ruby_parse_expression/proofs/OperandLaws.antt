@@ -1,12 +1,12 @@
 -- How the operands of one level are read, by the terminals that the code has.
-use Rattle.std.proofs.Common.{◌≡◌, ℕ, ◌<◌, Bool, true, false, ◌==◌, ◌||◌, List, [], ◌∷◌, refl, sym, ap, ◌∙◌, subst}
+use Rattle.std.proofs.Common.{◌≡◌, ℕ, ◌<◌, Bool, true, false, ◌==◌, ◌||◌, List, ◌∷◌, refl, sym, ap, ◌∙◌, subst}
 use Rattle.std.proofs.Common.{arith, lit<, Result, Ok, Err}
 use Rattle.std.proofs.lemmas.Bool.Decides.{nat_tests}
 use Rattle.descent.specs.Reading.{head}
 use Rattle.ruby_types.specs.declared.tree.Expr.{Expr}
 use Rattle.ruby_grammar.specs.Words.{Word}
 use Rattle.ruby_grammar.specs.Signs.{Level, units, products, sums, comparisons, equalities, conjunctions, disjunctions}
-use Rattle.ruby_grammar.specs.Signs.{tighter, is_operator, repeats, is, sign}
+use Rattle.ruby_grammar.specs.Signs.{tighter, is_operator, repeats}
 use Rattle.ruby_grammar.specs.Rules.{Scope, an_expression, operators, more_operators}
 use Rattle.ruby_grammar.specs.Values.{operation}
 use Rattle.ruby_grammar.specs.Expressions.{operators_behind}
@@ -19,7 +19,6 @@ use Rattle.ruby_parse_steps.specs.Levels.{is_operator_terminal}
 use Rattle.ruby_parse_steps.proofs.Descent.{g_give}
 use Rattle.ruby_parse_steps.proofs.OperatorLaws.{operator_reads, operator_breaks}
 use Rattle.ruby_parse_steps.proofs.OperatorLaws.{operators_end}
-use Rattle.ruby_parse_steps.proofs.PrimaryLaws.{sees}
 
 -- ---- the terminal of an operator
 at : (n k : ℕ) → k < 98 → (n == k) ≡ true → n < 98
