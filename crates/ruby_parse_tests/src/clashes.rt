@@ -100,22 +100,27 @@ fn other_definitions_do_not_clash(rt: HostRuntime) -> Result<(), Fail> {
     each_file(&rt, rt.alloc(), &DISTINCT)
 }
 
-/// A definition counts behind the word that shows what it is, and not before.
-static MOMENTS: [Fault; 18] = [
+/// An assignment counts behind its `=`, a path or a method's name where what stands behind it can't go on with it.
+static MOMENTS: [Fault; 23] = [
     ("X = 1\nX»", "Expected"),
     ("X = 1\nX »1", "Expected"),
     ("X = 1\n»X =", "TwiceDefined"),
     ("X = 1\n»X = )", "TwiceDefined"),
-    ("X = 1\nclass X»", "Expected"),
-    ("X = 1\nclass X »1", "Expected"),
+    ("A=1\nclass »A 1", "TwiceDefined"),
+    ("A=1\nmodule »A", "TwiceDefined"),
+    ("X = 1\nclass »X", "TwiceDefined"),
+    ("X = 1\nclass »X `", "TwiceDefined"),
+    ("X = 1\nclass X::»", "Expected"),
+    ("module A\nX = 1\nmodule »X::Y\nend\nend", "TwiceDefined"),
     ("X = 1\nclass »X\n", "TwiceDefined"),
     ("X = 1\nclass »X <", "TwiceDefined"),
     ("class X < A\nend\nclass X <»", "Expected"),
     ("class X < A\nend\nclass X < B::»)", "Expected"),
     ("class X < A\nend\nclass »X < B )", "TwiceDefined"),
     ("class X < A\nend\nclass »X < B\n", "TwiceDefined"),
-    ("class A\ndef f\nend\ndef f»", "Expected"),
-    ("class A\ndef f\nend\ndef f »1", "Expected"),
+    ("module M\ndef a\nend\ndef »a", "TwiceDefined"),
+    ("class A\ndef f\nend\ndef »f 1", "TwiceDefined"),
+    ("class A\ndef f\nend\ndef self.f »1", "Expected"),
     ("class A\ndef f\nend\ndef »f(", "TwiceDefined"),
     ("class A\ndef f\nend\ndef »f\n", "TwiceDefined"),
     ("class A\nattr_reader :a, »:a", "TwiceDefined"),
