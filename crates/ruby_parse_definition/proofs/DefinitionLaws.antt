@@ -1,5 +1,5 @@
 -- How definitions and whole files are read.
-use Rattle.std.proofs.Common.{◌≡◌, ℕ, suc, true, false, List, [], ◌∷◌, ◌++◌, drop, refl, sym, ap, ◌∙◌, subst, Option}
+use Rattle.std.proofs.Common.{◌≡◌, ℕ, suc, Bool, true, false, List, [], ◌∷◌, ◌++◌, drop, refl, sym, ap, ◌∙◌, subst, Option}
 use Rattle.std.proofs.Common.{Result, Ok, Err}
 use Rattle.std.proofs.lemmas.Bool.{cond-true, cond-false}
 use Rattle.descent.specs.Grammar.{Prod, give, token, call, only}
@@ -18,40 +18,58 @@ use Rattle.ruby_grammar.specs.Language.{most_levels}
 use Rattle.ruby_grammar.specs.Choices.{ruby_choices, next_is, deepen, starts_definition}
 use Rattle.ruby_parse_cursor.specs.declared.fault.Fault.{Fault}
 use Rattle.ruby_parse_cursor.specs.declared.fault.Fault.TheVariants as f
-use Rattle.ruby_parse_steps.specs.Gives.{Comes, Stops}
-use Rattle.ruby_parse_definition.specs.declared.headers.Opened.{Opened}
-use Rattle.ruby_parse_definition.specs.Answers.{GivesMarked, GivesMarkedRule, GivesFile, GivesFileFrom, Leads}
+use Rattle.ruby_parse_marks.specs.Views.{Noted, Tells, outside}
+use Rattle.ruby_parse_definition.specs.Answers.{StopsAt, GivesMarked, GivesMarkedRule, GivesFile, GivesFileFrom}
+use Rattle.ruby_parse_definition.specs.Answers.{LeadsQuietly, Leads, IsInside}
 use Rattle.ruby_parse_definition.specs.Parts.{body_then, GivesBody, GivesModule, GivesClass}
-use Rattle.ruby_parse_definition.proofs.Steps.{skip, picked, after, then, finish, stop, lacks, deep, breaks, led_marked}
+use Rattle.ruby_parse_definition.proofs.MarkedSteps.{skip, picked, after, then, finish, stop, lacks, deep, breaks}
+use Rattle.ruby_parse_definition.proofs.MarkedSteps.{led_marked, noted_as}
+use Rattle.ruby_parse_definition.proofs.CountLaws.{tells_outside}
+use Rattle.ruby_parse_definition.proofs.Steps as quiet
 use Rattle.ruby_parse_definition.proofs.Steps.{apart}
 
 -- ---- all definitions of a body
-module _ (here : Body) (ds : List Def) (ms : List Mark) (ws : List Word) where
+module _ (n : ℕ) (path : Path) (ds : List Def) (ms : Noted) (k : ms.here ≡ path) (ws : List Word) where
+  abbrev here : Body
+  here = body n false path
+
   abbrev next_definition : Def → Prod ruby some_defs
   next_definition d = only (more_definitions here (ds ++ d ∷ []))
 
-  to_definition : next_is (starts_definition here.path) (head ws) ≡ true →
+  begins : (b : Bool) → next_is (starts_definition ms.here) (head ws) ≡ b → next_is (starts_definition path) (head ws)
+      ≡ b
+  begins b p = subst (λ q. next_is (starts_definition q) (head ws) ≡ b) k p
+
+  as_here : (r : Result Def Fault) (ns : Noted) (rest : List Word) →
+      GivesMarkedRule {s = a_def} (definition (body n false ms.here)) ms ws r ns rest →
+      GivesMarkedRule {s = a_def} (definition here) ms ws r ns rest
+  as_here r ns rest g = subst (λ q. GivesMarkedRule {s = a_def} (definition (body n false q)) ms ws r ns rest) k g
+
+  to_definition : next_is (starts_definition ms.here) (head ws) ≡ true →
       Leads {s = some_defs} (only (definitions here ds)) ms ws (call (definition here) next_definition) ms ws
-  to_definition p = picked {s = some_defs} (definitions here ds) (definition_then here ds) ms ws (cond-true _ _ _ p)
+  to_definition p = picked {s = some_defs} (definitions here ds) (definition_then here ds) ms ws
+      (cond-true _ _ _ (begins true p))
 
-  pub definitions_break : (e : Fault) (ns : List Mark) (rest : List Word) →
-      next_is (starts_definition here.path) (head ws) ≡ true →
-      GivesMarkedRule {s = a_def} (definition here) ms ws (Err e) ns rest →
-      Stops {s = some_defs} (only (definitions here ds)) ms ws e rest
+  pub definitions_break : (e : Fault) (ns : Noted) (rest : List Word) →
+      next_is (starts_definition ms.here) (head ws) ≡ true →
+      GivesMarkedRule {s = a_def} (definition (body n false ms.here)) ms ws (Err e) ns rest →
+      StopsAt {s = some_defs} (only (definitions here ds)) ms ws e rest
   definitions_break e ns rest p g = stop {s = some_defs} _ _ ms ms ws ws rest e (to_definition p)
-      (breaks {s = some_defs} {v = a_def} (definition here) next_definition ms ws rest e g)
+      (breaks {s = some_defs} {u = a_def} (definition here) next_definition ms ws rest e (as_here (Err e) ns rest g))
 
-  pub definitions_end : next_is (starts_definition here.path) (head ws) ≡ false →
+  pub definitions_end : next_is (starts_definition ms.here) (head ws) ≡ false →
       Leads {s = some_defs} (only (definitions here ds)) ms ws (give ds) ms ws
-  definitions_end p = picked {s = some_defs} (definitions here ds) (give ds) ms ws (cond-false _ _ _ p)
+  definitions_end p = picked {s = some_defs} (definitions here ds) (give ds) ms ws
+      (cond-false _ _ _ (begins false p))
 
-  module _ (d : Def) (longer : List Def) (ns : List Mark) (mid : List Word)
-      (p : next_is (starts_definition here.path) (head ws) ≡ true)
-      (g : GivesMarkedRule {s = a_def} (definition here) ms ws (Ok d) ns mid) (l : longer ≡ ds ++ d ∷ []) where
+  module _ (d : Def) (longer : List Def) (ns : Noted) (mid : List Word)
+      (p : next_is (starts_definition ms.here) (head ws) ≡ true)
+      (g : GivesMarkedRule {s = a_def} (definition (body n false ms.here)) ms ws (Ok d) ns mid)
+      (l : longer ≡ ds ++ d ∷ []) where
     to_more : Leads {s = some_defs} (only (definitions here ds)) ms ws (only (more_definitions here longer)) ns mid
     to_more = subst (λ k. Leads {s = some_defs} (only (definitions here ds)) ms ws (only (more_definitions here k))
         ns mid) (sym l) (then (to_definition p)
-        (after {s = some_defs} {v = a_def} (definition here) next_definition d ms ns ws mid g))
+        (after {s = some_defs} {u = a_def} (definition here) next_definition d ms ns ws mid (as_here (Ok d) ns mid g)))
 
     pub definition_and_line : (rest : List Word) → next_is is_line (head mid) ≡ true → rest ≡ drop 1 mid →
         Leads {s = some_defs} (only (definitions here ds)) ms ws (only (definitions here longer)) ns rest
@@ -66,7 +84,7 @@ module _ (here : Body) (ds : List Def) (ms : List Mark) (ws : List Word) where
         then to_more (picked {s = some_defs} (more_definitions here longer) (give longer) ns mid (cond-false _ _ _ q))
 
 -- ---- which definition is chosen
-module _ (n : ℕ) (path : Path) (ms ns : List Mark) (ws : List Word) where
+module _ (n : ℕ) (path : Path) (ms ns : Noted) (ws : List Word) where
   abbrev around : Body
   around = body n false path
 
@@ -104,19 +122,19 @@ module _ (n : ℕ) (path : Path) (ms ns : List Mark) (ws : List Word) where
         (class_choice t ∙ ap (λ v. deepen v (class_from around)) l)) g
 
 -- ---- the definitions inside a module or class
-module _ (here : Body) (ms : List Mark) (ws : List Word) where
+module _ (here : Body) (ms : Noted) (ws : List Word) where
   abbrev end_then : (List Def → Def) → List Def → Prod ruby a_def
   end_then made ds = token is_end λ _. give (made ds)
 
-  pub body_breaks : (e : Fault) (ns : List Mark) (rest : List Word) →
+  pub body_breaks : (e : Fault) (ns : Noted) (rest : List Word) →
       GivesMarkedRule {s = some_defs} (definitions here []) ms ws (Err e) ns rest → GivesBody here ms ws (Err e) ns rest
-  body_breaks e ns rest g = λ made. breaks {s = a_def} {v = some_defs} (definitions here [])
+  body_breaks e ns rest g = λ made. breaks {s = a_def} {u = some_defs} (definitions here [])
       (end_then made) ms ws rest e g
 
-  module _ (ds : List Def) (ns : List Mark) (mid : List Word)
+  module _ (ds : List Def) (ns : Noted) (mid : List Word)
       (g : GivesMarkedRule {s = some_defs} (definitions here []) ms ws (Ok ds) ns mid) where
     to_end : (made : List Def → Def) → Leads {s = a_def} (body_then here made) ms ws (end_then made ds) ns mid
-    to_end made = after {s = a_def} {v = some_defs} (definitions here []) (end_then made) ds ms ns ws mid g
+    to_end made = after {s = a_def} {u = some_defs} (definitions here []) (end_then made) ds ms ns ws mid g
 
     pub body_lacks_end : (e : Fault) (rest : List Word) → rest ≡ mid → next_is is_end (head mid) ≡ false →
         e ≡ f.Unexpected → GivesBody here ms ws (Err e) ns rest
@@ -128,76 +146,90 @@ module _ (here : Body) (ms : List Mark) (ws : List Word) where
     body_reads rest q s = λ made. then (to_end made) (skip {s = a_def} is_end (give (made ds)) ns mid rest q s)
 
 -- ---- a module, a class
-module _ (n : ℕ) (path : Path) (levels : ℕ) (ms ns : List Mark) (ws mid : List Word) where
-  module _ (m : Opened) (g : GivesModule (body n false path) ms ws (Ok m) ns mid) where
-    pub module_breaks : (e : Fault) (os : List Mark) (rest : List Word) →
-        GivesBody (body levels false m.path) ns mid (Err e) os rest →
-        GivesMarked {s = a_def} (module_from (body n false path) levels) ms ws (Err e) os rest
-    module_breaks e os rest h = stop {s = a_def} _ _ ms ns ws mid rest e (g levels) (h (λ ds. def.Module m.name ds))
+module _ (levels : ℕ) (ms ns : Noted) (ws mid : List Word) (name : Path) (i : IsInside ms name ns) where
+  as_inside : (r : Result (List Def) Fault) (os : Noted) (rest : List Word) →
+      GivesBody (body levels false ns.here) ns mid r os rest →
+      GivesBody (body levels false (ms.here ++ name)) ns mid r os rest
+  as_inside r os rest h = subst (λ p. GivesBody (body levels false p) ns mid r os rest) i.0 h
 
-    pub module_reads : (ds : List Def) (os : List Mark) (rest : List Word) →
-        GivesBody (body levels false m.path) ns mid (Ok ds) os rest →
-        GivesMarked {s = a_def} (module_from (body n false path) levels) ms ws (Ok (def.Module m.name ds)) os rest
-    module_reads ds os rest h = finish {s = a_def} (module_from (body n false path) levels)
-        (def.Module m.name ds) ms os ws rest (then (g levels) (h (λ ds. def.Module m.name ds)))
+  module _ (g : GivesModule ms ws (Ok name) ns mid) where
+    pub module_breaks : (e : Fault) (os : Noted) (rest : List Word) →
+        GivesBody (body levels false ns.here) ns mid (Err e) os rest →
+        GivesMarked {s = a_def} (module_from (body 0 false ms.here) levels) ms ws (Err e) os rest
+    module_breaks e os rest h = stop {s = a_def} _ _ ms ns ws mid rest e (g levels)
+        (as_inside (Err e) os rest h (λ ds. def.Module name ds))
 
-  module _ (c : Opened) (parent : Option ConstRef) (g : GivesClass (body n false path) ms ws (Ok (c, parent)) ns mid)
-    where
-      pub class_breaks : (e : Fault) (os : List Mark) (rest : List Word) →
-          GivesBody (body levels false c.path) ns mid (Err e) os rest →
-          GivesMarked {s = a_def} (class_from (body n false path) levels) ms ws (Err e) os rest
-      class_breaks e os rest h = stop {s = a_def} _ _ ms ns ws mid rest e (g levels)
-          (h (λ ds. def.Class c.name parent ds))
+    pub module_reads : (ds : List Def) (os : Noted) (rest : List Word) →
+        GivesBody (body levels false ns.here) ns mid (Ok ds) os rest →
+        GivesMarked {s = a_def} (module_from (body 0 false ms.here) levels) ms ws (Ok (def.Module name ds)) (outside os)
+        rest
+    module_reads ds os rest h = finish {s = a_def} (module_from (body 0 false ms.here) levels)
+        (def.Module name ds) ms (outside os) ws rest
+        (noted_as {s = a_def} _ _ ms os (outside os) ws rest (λ ks t. tells_outside os ks t)
+        (then (g levels) (as_inside (Ok ds) os rest h (λ ds. def.Module name ds))))
 
-      pub class_reads : (ds : List Def) (os : List Mark) (rest : List Word) →
-          GivesBody (body levels false c.path) ns mid (Ok ds) os rest →
-          GivesMarked {s = a_def} (class_from (body n false path) levels) ms ws (Ok (def.Class c.name parent ds)) os rest
-      class_reads ds os rest h = finish {s = a_def} (class_from (body n false path) levels)
-          (def.Class c.name parent ds) ms os ws rest (then (g levels) (h (λ ds. def.Class c.name parent ds)))
+  module _ (parent : Option ConstRef) (g : GivesClass ms ws (Ok (name, parent)) ns mid) where
+    pub class_breaks : (e : Fault) (os : Noted) (rest : List Word) →
+        GivesBody (body levels false ns.here) ns mid (Err e) os rest →
+        GivesMarked {s = a_def} (class_from (body 0 false ms.here) levels) ms ws (Err e) os rest
+    class_breaks e os rest h = stop {s = a_def} _ _ ms ns ws mid rest e (g levels)
+        (as_inside (Err e) os rest h (λ ds. def.Class name parent ds))
+
+    pub class_reads : (ds : List Def) (os : Noted) (rest : List Word) →
+        GivesBody (body levels false ns.here) ns mid (Ok ds) os rest →
+        GivesMarked {s = a_def} (class_from (body 0 false ms.here) levels) ms ws (Ok (def.Class name parent ds))
+        (outside os) rest
+    class_reads ds os rest h = finish {s = a_def} (class_from (body 0 false ms.here) levels)
+        (def.Class name parent ds) ms (outside os) ws rest
+        (noted_as {s = a_def} _ _ ms os (outside os) ws rest (λ ks t. tells_outside os ks t)
+        (then (g levels) (as_inside (Ok ds) os rest h (λ ds. def.Class name parent ds))))
 
 -- ---- a whole file
 abbrev tree_of : List Def → FileTree
 tree_of ds = record { defs = ds }
 
-module _ (path : Path) (ms : List Mark) (p : path ≡ []) (m : ms ≡ []) (ws : List Word) where
+abbrev nothing_noted : Noted
+nothing_noted = record { here = []; around = []; deeds = [] }
+
+nothing_told : Tells nothing_noted []
+nothing_told = record { tells = λ m. refl }
+
+module _ (v : Noted) (m : v ≡ nothing_noted) (ws : List Word) where
   abbrev all_definitions : Path → Prod ruby a_tree
   all_definitions path = call (definitions (body most_levels false path) []) λ ds. give (tree_of ds)
 
-  pub file_breaks : (e : Fault) (ns : List Mark) (rest : List Word) →
-      GivesMarkedRule {s = some_defs} (definitions (body most_levels false path) []) ms ws (Err e) ns rest →
+  pub file_breaks : (e : Fault) (w : Noted) (rest : List Word) →
+      GivesMarkedRule {s = some_defs} (definitions (body most_levels false v.here) []) v ws (Err e) w rest →
       GivesFileFrom ws (Err e) rest
-  file_breaks e ns rest g =
-      subst (λ k. Stops {s = a_tree} (all_definitions k) [] ws e rest) p
-      (subst (λ l. Stops {s = a_tree} (all_definitions path) l ws e rest) m
-      (breaks {s = a_tree} {v = some_defs} (definitions (body most_levels false path) [])
-      (λ ds. give (tree_of ds)) ms ws rest e g))
+  file_breaks e w rest g =
+      subst (λ k. StopsAt {s = a_tree} (all_definitions k.here) k ws e rest) m
+      (breaks {s = a_tree} {u = some_defs} (definitions (body most_levels false v.here) [])
+      (λ ds. give (tree_of ds)) v ws rest e g) [] nothing_told
 
-  pub file_reads : (ds : List Def) (ns : List Mark) (rest : List Word) →
-      GivesMarkedRule {s = some_defs} (definitions (body most_levels false path) []) ms ws (Ok ds) ns rest →
+  pub file_reads : (ds : List Def) (w : Noted) (rest : List Word) →
+      GivesMarkedRule {s = some_defs} (definitions (body most_levels false v.here) []) v ws (Ok ds) w rest →
       GivesFileFrom ws (Ok (tree_of ds)) rest
-  file_reads ds ns rest g = (
-    ns,
-    subst (λ k. Comes {s = a_tree} (all_definitions k) [] ws (done (tree_of ds) ns rest)) p
-        (subst (λ l. Comes {s = a_tree} (all_definitions path) l ws (done (tree_of ds) ns rest)) m
-        (finish {s = a_tree} (all_definitions path) (tree_of ds) ms ns ws rest
-        (after {s = a_tree} {v = some_defs} (definitions (body most_levels false path) [])
-        (λ ds. give (tree_of ds)) ds ms ns ws rest g))),
-  )
+  file_reads ds w rest g =
+      let k = subst (λ k. GivesMarked {s = a_tree} (all_definitions k.here) k ws (Ok (tree_of ds)) w rest) m
+      (finish {s = a_tree} (all_definitions v.here) (tree_of ds) v w ws rest
+      (after {s = a_tree} {u = some_defs} (definitions (body most_levels false v.here) [])
+      (λ ds. give (tree_of ds)) ds v w ws rest g)) [] nothing_told in
+      (k.0, k.2)
 
 led_file : (ws mid rest : List Word) (r : Result FileTree Fault) →
-    Leads {s = a_tree} (only (file most_levels false)) [] ws (file_from most_levels false) [] mid →
+    LeadsQuietly {s = a_tree} (only (file most_levels false)) [] ws (file_from most_levels false) [] mid →
     GivesFileFrom mid r rest → GivesFile ws r rest
 led_file ws mid rest (Ok tree) a g = (g.0, a (done tree g.0 rest) g.1)
-led_file ws mid rest (Err e) a g = stop {s = a_tree} (only (file most_levels false)) (file_from most_levels false) []
+led_file ws mid rest (Err e) a g = quiet.stop {s = a_tree} (only (file most_levels false)) (file_from most_levels false) []
     [] ws mid rest e a g
 
 module _ (ws rest : List Word) (r : Result FileTree Fault) where
   pub line_and_file : (mid : List Word) → next_is is_line (head ws) ≡ true → mid ≡ drop 1 ws →
       GivesFileFrom mid r rest → GivesFile ws r rest
   line_and_file mid t d g = led_file ws mid rest r
-      (then (picked {s = a_tree} (file most_levels false) (token is_line λ _. file_from most_levels false) [] ws
-      (cond-true _ _ _ t)) (skip {s = a_tree} is_line (file_from most_levels false) [] ws mid t d)) g
+      (quiet.then (quiet.picked {s = a_tree} (file most_levels false) (token is_line λ _. file_from most_levels false) [] ws
+      (cond-true _ _ _ t)) (quiet.skip {s = a_tree} is_line (file_from most_levels false) [] ws mid t d)) g
 
   pub file_alone : next_is is_line (head ws) ≡ false → GivesFileFrom ws r rest → GivesFile ws r rest
   file_alone t g = led_file ws ws rest r
-      (picked {s = a_tree} (file most_levels false) (file_from most_levels false) [] ws (cond-false _ _ _ t)) g
+      (quiet.picked {s = a_tree} (file most_levels false) (file_from most_levels false) [] ws (cond-false _ _ _ t)) g

@@ -1,4 +1,6 @@
 mod Steps
+mod MarkedSteps
+mod CountLaws
 mod PathLaws
 mod HeadingLaws
 mod HeaderLaws

@@ -21,14 +21,15 @@ use Rattle.ruby_grammar.specs.Definitions.{reader_more, method_from}
 use Rattle.ruby_grammar.specs.Choices.{ruby_choices, next_is, deepen, pick_member}
 use Rattle.ruby_parse_cursor.specs.declared.fault.Fault.{Fault}
 use Rattle.ruby_parse_cursor.specs.declared.fault.Fault.TheVariants as f
-use Rattle.ruby_parse_steps.specs.Gives.{Stops, GivesRule, GivesConstant}
-use Rattle.ruby_parse_definition.specs.Answers.{GivesMarked, GivesMarkedRule, Leads, Counted}
+use Rattle.ruby_parse_steps.specs.Gives.{GivesRule, GivesConstant}
+use Rattle.ruby_parse_marks.specs.Views.{Noted}
+use Rattle.ruby_parse_definition.specs.Answers.{StopsAt, GivesMarked, GivesMarkedRule, Leads, Counted}
 use Rattle.ruby_parse_definition.specs.Parts.{reader_then, GivesReader}
-use Rattle.ruby_parse_definition.proofs.Steps.{word, skip, picked, after, quietly, counted, then, finish, stop, lacks}
-use Rattle.ruby_parse_definition.proofs.Steps.{none, deep, breaks, breaks_quietly, clashes, led_marked}
+use Rattle.ruby_parse_definition.proofs.MarkedSteps.{word, skip, picked, after, quietly, counted, then, finish, stop, lacks}
+use Rattle.ruby_parse_definition.proofs.MarkedSteps.{none, deep, breaks, breaks_quietly, clashes, led_marked}
 
 -- ---- an assigned constant
-module _ (n : ℕ) (outer : Path) (ms : List Mark) (ws : List Word) where
+module _ (n : ℕ) (outer : Path) (ms : Noted) (ws : List Word) where
   abbrev here : Body
   here = body n false outer
 
@@ -41,7 +42,7 @@ module _ (n : ℕ) (outer : Path) (ms : List Mark) (ws : List Word) where
   abbrev assign_then : Word → Prod ruby a_def
   assign_then w = token is_assign λ _. counted_value (outer ++ w.text ∷ []) w
 
-  pub no_const : (e : Fault) (ns : List Mark) (rest : List Word) → rest ≡ ws → next_is is_const (head ws) ≡ false →
+  pub no_const : (e : Fault) (ns : Noted) (rest : List Word) → rest ≡ ws → next_is is_const (head ws) ≡ false →
       e ≡ f.Unexpected → GivesMarked {s = a_def} (assign_from here) ms ws (Err e) ns rest
   no_const e ns rest d t u = lacks {s = a_def} is_const assign_then ms ws rest e d t u
 
@@ -49,7 +50,7 @@ module _ (n : ℕ) (outer : Path) (ms : List Mark) (ws : List Word) where
     to_assign : Leads {s = a_def} (assign_from here) ms ws (assign_then w) ms mid
     to_assign = word {s = a_def} is_const assign_then w ms ws mid e t
 
-    pub assign_lacks_sign : (e : Fault) (ns : List Mark) (rest : List Word) → rest ≡ mid →
+    pub assign_lacks_sign : (e : Fault) (ns : Noted) (rest : List Word) → rest ≡ mid →
         next_is is_assign (head mid) ≡ false → e ≡ f.Unexpected →
         GivesMarked {s = a_def} (assign_from here) ms ws (Err e) ns rest
     assign_lacks_sign e ns rest s q u = stop {s = a_def} _ _ ms ms ws mid rest e to_assign
@@ -61,12 +62,12 @@ module _ (n : ℕ) (outer : Path) (ms : List Mark) (ws : List Word) where
       to_mark = subst (λ v. Leads {s = a_def} (assign_from here) ms ws (counted_value v w) ms behind) (sym l)
           (then to_assign (skip {s = a_def} is_assign (counted_value (outer ++ w.text ∷ []) w) ms mid behind q d))
 
-      pub assign_clashes : (e : Fault) (ns : List Mark) → Counted ms (counts full assigns w.at) (Err e) ns →
+      pub assign_clashes : (e : Fault) (ns : Noted) → Counted ms (counts full assigns w.at) (Err e) ns →
           GivesMarked {s = a_def} (assign_from here) ms ws (Err e) ns behind
       assign_clashes e ns h = stop {s = a_def} _ _ ms ms ws behind behind e to_mark
           (clashes {s = a_def} (counts full assigns w.at) (value_of w.text) ms behind e h)
 
-      module _ (ns : List Mark) (u : Unit {0}) (h : Counted ms (counts full assigns w.at) (Ok u) ns) where
+      module _ (ns : Noted) (u : Unit {0}) (h : Counted ms (counts full assigns w.at) (Ok u) ns) where
         to_value : Leads {s = a_def} (assign_from here) ms ws (value_of w.text) ns behind
         to_value = then to_mark (counted {s = a_def} (counts full assigns w.at) (value_of w.text) ms ns behind u h)
 
@@ -74,7 +75,7 @@ module _ (n : ℕ) (outer : Path) (ms : List Mark) (ws : List Word) where
             GivesRule {s = an_expression} (expression (scope n [])) behind (Err e) rest →
             GivesMarked {s = a_def} (assign_from here) ms ws (Err e) ns rest
         assign_breaks e rest g = stop {s = a_def} _ _ ms ns ws behind rest e to_value
-            (breaks_quietly {s = a_def} {v = an_expression} (expression (scope n []))
+            (breaks_quietly {s = a_def} {u = an_expression} (expression (scope n []))
             (λ x. give (def.Assign w.text x)) ns behind rest e g)
 
         pub assign_reads : (x : Expr) (name : Name) (rest : List Word) → name ≡ w.text →
@@ -83,12 +84,12 @@ module _ (n : ℕ) (outer : Path) (ms : List Mark) (ws : List Word) where
         assign_reads x name rest k g =
             subst (λ v. GivesMarked {s = a_def} (assign_from here) ms ws (Ok (def.Assign v x)) ns rest) (sym k)
             (finish {s = a_def} (assign_from here) (def.Assign w.text x) ms ns ws rest
-            (then to_value (quietly {s = a_def} {v = an_expression} (expression (scope n []))
+            (then to_value (quietly {s = a_def} {u = an_expression} (expression (scope n []))
             (λ x. give (def.Assign w.text x)) x ns behind rest g)))
 
 -- ---- `include`
-module _ (ms : List Mark) (ws : List Word) where
-  pub no_include : (e : Fault) (ns : List Mark) (rest : List Word) → rest ≡ ws →
+module _ (ms : Noted) (ws : List Word) where
+  pub no_include : (e : Fault) (ns : Noted) (rest : List Word) → rest ≡ ws →
       next_is is_include (head ws) ≡ false → e ≡ f.Unexpected →
       GivesMarked {s = a_def} include_from ms ws (Err e) ns rest
   no_include e ns rest d t u = lacks {s = a_def} is_include (λ _. call (constant None) λ c. give (def.Include c)) ms
@@ -98,20 +99,21 @@ module _ (ms : List Mark) (ws : List Word) where
     to_constant : Leads {s = a_def} include_from ms ws (call (constant None) λ c. give (def.Include c)) ms mid
     to_constant = skip {s = a_def} is_include (call (constant None) λ c. give (def.Include c)) ms ws mid t d
 
-    pub include_breaks : (e : Fault) (ns : List Mark) (rest : List Word) → GivesConstant mid (Err e) rest →
+    pub include_breaks : (e : Fault) (ns : Noted) (rest : List Word) → GivesConstant mid (Err e) rest →
         GivesMarked {s = a_def} include_from ms ws (Err e) ns rest
     include_breaks e ns rest g = stop {s = a_def} _ _ ms ms ws mid rest e to_constant
-        (breaks {s = a_def} {v = a_constant} (constant None) (λ c. give (def.Include c)) ms mid rest e (g None ms))
+        (breaks {s = a_def} {u = a_constant} (constant None) (λ c. give (def.Include c)) ms mid rest e
+        (λ ks _. g None ks))
 
     pub include_reads : (c : ConstRef) (rest : List Word) → GivesConstant mid (Ok c) rest →
         GivesMarked {s = a_def} include_from ms ws (Ok (def.Include c)) ms rest
     include_reads c rest g = finish {s = a_def} include_from (def.Include c) ms ms ws rest
-        (then to_constant (after {s = a_def} {v = a_constant} (constant None) (λ c. give (def.Include c)) c ms ms mid
-        rest (g None ms (done c ms rest) by_give)))
+        (then to_constant (after {s = a_def} {u = a_constant} (constant None) (λ c. give (def.Include c)) c ms ms mid
+        rest (λ ks t. (ks, t, g None ks (done c ks rest) by_give))))
 
 -- ---- readers
-module _ (path : Path) (ms : List Mark) (ws : List Word) where
-  pub no_symbol : (e : Fault) (ns : List Mark) (rest : List Word) → rest ≡ ws → next_is is_sym (head ws) ≡ false →
+module _ (path : Path) (ms : Noted) (ws : List Word) where
+  pub no_symbol : (e : Fault) (ns : Noted) (rest : List Word) → rest ≡ ws → next_is is_sym (head ws) ≡ false →
       e ≡ f.Unexpected → GivesReader path ms ws (Err e) ns rest
   no_symbol e ns rest d t u = λ s next. lacks is_sym (λ w. mark (reader path w) (next (behind_sign w.text))) ms ws
       rest e d t u
@@ -128,12 +130,12 @@ module _ (path : Path) (ms : List Mark) (ws : List Word) where
         (subst (λ v. Leads (reader_then path next) ms ws (mark (reader path w) (next v)) ms mid) (sym l)
         (word is_sym (λ w. mark (reader path w) (next (behind_sign w.text))) w ms ws mid e t))
 
-    pub reader_clashes : (e : Fault) (ns : List Mark) → Counted ms counting (Err e) ns →
+    pub reader_clashes : (e : Fault) (ns : Noted) → Counted ms counting (Err e) ns →
         GivesReader path ms ws (Err e) ns mid
     reader_clashes e ns h = λ s next. stop _ _ ms ms ws mid mid e (to_reader next)
         (clashes counting (next name) ms mid e h)
 
-    pub reader_reads : (ns : List Mark) (u : Unit {0}) → Counted ms counting (Ok u) ns →
+    pub reader_reads : (ns : Noted) (u : Unit {0}) → Counted ms counting (Ok u) ns →
         GivesReader path ms ws (Ok name) ns mid
     reader_reads ns u h = λ s next. then (to_reader next) (counted counting (next name) ms ns mid u h)
 
@@ -146,11 +148,11 @@ module _ (path : Path) (ms : List Mark) (ws : List Word) where
       to_symbol = then (picked {s = some_names} (more_readers path names) (reader_more path names) ms ws
           (cond-true _ _ _ t)) (skip {s = some_names} is_comma (reader_then path next_reader) ms ws mid t d)
 
-      pub reader_lacks : (e : Fault) (ns : List Mark) (rest : List Word) → GivesReader path ms mid (Err e) ns rest →
-          Stops {s = some_names} (only (more_readers path names)) ms ws e rest
+      pub reader_lacks : (e : Fault) (ns : Noted) (rest : List Word) → GivesReader path ms mid (Err e) ns rest →
+          StopsAt {s = some_names} (only (more_readers path names)) ms ws e rest
       reader_lacks e ns rest g = stop {s = some_names} _ _ ms ms ws mid rest e to_symbol (g some_names next_reader)
 
-      pub reader_goes_on : (name : Name) (longer : List Name) (ns : List Mark) (rest : List Word) →
+      pub reader_goes_on : (name : Name) (longer : List Name) (ns : Noted) (rest : List Word) →
           GivesReader path ms mid (Ok name) ns rest → longer ≡ names ++ name ∷ [] →
           Leads {s = some_names} (only (more_readers path names)) ms ws (only (more_readers path longer)) ns rest
       reader_goes_on name longer ns rest g l =
@@ -161,11 +163,11 @@ module _ (path : Path) (ms : List Mark) (ws : List Word) where
         Leads {s = some_names} (only (more_readers path names)) ms ws (give names) ms ws
     readers_end t = picked {s = some_names} (more_readers path names) (give names) ms ws (cond-false _ _ _ t)
 
-module _ (n : ℕ) (path : Path) (ms : List Mark) (ws : List Word) where
+module _ (n : ℕ) (path : Path) (ms : Noted) (ws : List Word) where
   abbrev all_readers : Name → Prod ruby a_def
   all_readers name = call (more_readers path (name ∷ [])) λ names. give (def.Readers names)
 
-  pub no_attr_reader : (e : Fault) (ns : List Mark) (rest : List Word) → rest ≡ ws → next_is is_attr_reader (head ws)
+  pub no_attr_reader : (e : Fault) (ns : Noted) (rest : List Word) → rest ≡ ws → next_is is_attr_reader (head ws)
       ≡ false → e ≡ f.Unexpected → GivesMarked {s = a_def} (readers_from (body n false path)) ms ws (Err e) ns rest
   no_attr_reader e ns rest d t u = lacks {s = a_def} is_attr_reader (λ _. reader_then path all_readers) ms ws rest e
       d t u
@@ -174,12 +176,12 @@ module _ (n : ℕ) (path : Path) (ms : List Mark) (ws : List Word) where
     to_first : Leads {s = a_def} (readers_from (body n false path)) ms ws (reader_then path all_readers) ms mid
     to_first = skip {s = a_def} is_attr_reader (reader_then path all_readers) ms ws mid t d
 
-    pub first_reader_lacks : (e : Fault) (ns : List Mark) (rest : List Word) →
+    pub first_reader_lacks : (e : Fault) (ns : Noted) (rest : List Word) →
         GivesReader path ms mid (Err e) ns rest → GivesMarked {s = a_def} (readers_from (body n false path)) ms ws
         (Err e) ns rest
     first_reader_lacks e ns rest g = stop {s = a_def} _ _ ms ms ws mid rest e to_first (g a_def all_readers)
 
-    module _ (name : Name) (ns : List Mark) (behind : List Word) (g : GivesReader path ms mid (Ok name) ns behind)
+    module _ (name : Name) (ns : Noted) (behind : List Word) (g : GivesReader path ms mid (Ok name) ns behind)
         (empty first : List Name) (z : empty ≡ []) (l : first ≡ empty ++ name ∷ []) where
       to_more : Leads {s = a_def} (readers_from (body n false path)) ms ws
           (call (more_readers path first) λ names. give (def.Readers names)) ns behind
@@ -187,40 +189,40 @@ module _ (n : ℕ) (path : Path) (ms : List Mark) (ws : List Word) where
           (call (more_readers path k) λ names. give (def.Readers names)) ns behind)
           (sym (l ∙ ap (λ k. k ++ name ∷ []) z)) (then to_first (g a_def all_readers))
 
-      pub more_readers_break : (e : Fault) (os : List Mark) (rest : List Word) →
+      pub more_readers_break : (e : Fault) (os : Noted) (rest : List Word) →
           GivesMarkedRule {s = some_names} (more_readers path first) ns behind (Err e) os rest →
           GivesMarked {s = a_def} (readers_from (body n false path)) ms ws (Err e) os rest
       more_readers_break e os rest h = stop {s = a_def} _ _ ms ns ws behind rest e to_more
-          (breaks {s = a_def} {v = some_names} (more_readers path first) (λ names. give (def.Readers names)) ns
+          (breaks {s = a_def} {u = some_names} (more_readers path first) (λ names. give (def.Readers names)) ns
           behind rest e h)
 
-      pub readers_read : (names : List Name) (os : List Mark) (rest : List Word) →
+      pub readers_read : (names : List Name) (os : Noted) (rest : List Word) →
           GivesMarkedRule {s = some_names} (more_readers path first) ns behind (Ok names) os rest →
           GivesMarked {s = a_def} (readers_from (body n false path)) ms ws (Ok (def.Readers names)) os rest
       readers_read names os rest h = finish {s = a_def} (readers_from (body n false path))
           (def.Readers names) ms os ws rest
-          (then to_more (after {s = a_def} {v = some_names} (more_readers path first)
+          (then to_more (after {s = a_def} {u = some_names} (more_readers path first)
           (λ names. give (def.Readers names)) names ns os behind rest h))
 
 -- ---- which of them is chosen
-module _ (n : ℕ) (path : Path) (ms : List Mark) (ws : List Word) where
+module _ (n : ℕ) (path : Path) (ms : Noted) (ws : List Word) where
   abbrev around : Body
   around = body n false path
 
-  chosen_definition : (p : Prod ruby a_def) (ns : List Mark) (rest : List Word) (r : Result Def Fault) →
+  chosen_definition : (p : Prod ruby a_def) (ns : Noted) (rest : List Word) (r : Result Def Fault) →
       choose ruby_choices (definition around) ws ≡ take p → GivesMarked {s = a_def} p ms ws r ns rest →
       GivesMarkedRule {s = a_def} (definition around) ms ws r ns rest
   chosen_definition p ns rest r c g = led_marked {s = a_def} (only (definition around)) p ms ms ns ws ws rest r
       (picked {s = a_def} (definition around) p ms ws c) g
 
-  pub assigned_chosen : (ns : List Mark) (rest : List Word) (r : Result Def Fault) →
+  pub assigned_chosen : (ns : Noted) (rest : List Word) (r : Result Def Fault) →
       next_is is_const (head ws) ≡ true → GivesMarked {s = a_def} (assign_from around) ms ws r ns rest →
       GivesMarkedRule {s = a_def} (definition around) ms ws r ns rest
   assigned_chosen ns rest r t g = chosen_definition (assign_from around) ns rest r (cond-true _ _ _ t) g
 
   module _ (t : next_is is_const (head ws) ≡ false) (k : next_is is_module (head ws) ≡ false)
       (l : next_is is_class (head ws) ≡ false) where
-    pub nothing_at_top : (ns : List Mark) → at_top path ≡ true →
+    pub nothing_at_top : (ns : Noted) → at_top path ≡ true →
         GivesMarkedRule {s = a_def} (definition around) ms ws (Err f.Unexpected) ns ws
     nothing_at_top ns p = none {s = a_def} (definition around) ms ws ws f.Unexpected refl (cond-false _ _ _ t
         ∙ cond-false _ _ _ k ∙ cond-false _ _ _ l ∙ ap (λ b. pick_member b around (head ws)) p) refl
@@ -230,20 +232,20 @@ module _ (n : ℕ) (path : Path) (ms : List Mark) (ws : List Word) where
       member_chosen = cond-false _ _ _ t ∙ cond-false _ _ _ k ∙ cond-false _ _ _ l
           ∙ ap (λ b. pick_member b around (head ws)) p
 
-      pub included_chosen : (ns : List Mark) (rest : List Word) (r : Result Def Fault) →
+      pub included_chosen : (ns : Noted) (rest : List Word) (r : Result Def Fault) →
           next_is is_include (head ws) ≡ true → GivesMarked {s = a_def} include_from ms ws r ns rest →
           GivesMarkedRule {s = a_def} (definition around) ms ws r ns rest
       included_chosen ns rest r i g = chosen_definition include_from ns rest r (member_chosen ∙ cond-true _ _ _ i) g
 
       module _ (i : next_is is_include (head ws) ≡ false) where
-        pub readers_chosen : (ns : List Mark) (rest : List Word) (r : Result Def Fault) →
+        pub readers_chosen : (ns : Noted) (rest : List Word) (r : Result Def Fault) →
             next_is is_attr_reader (head ws) ≡ true → GivesMarked {s = a_def} (readers_from around) ms ws r ns rest →
             GivesMarkedRule {s = a_def} (definition around) ms ws r ns rest
         readers_chosen ns rest r a g = chosen_definition (readers_from around) ns rest r
             (member_chosen ∙ cond-false _ _ _ i ∙ cond-true _ _ _ a) g
 
         module _ (a : next_is is_attr_reader (head ws) ≡ false) where
-          pub method_chosen : (levels : ℕ) (ns : List Mark) (rest : List Word) (r : Result Def Fault) →
+          pub method_chosen : (levels : ℕ) (ns : Noted) (rest : List Word) (r : Result Def Fault) →
               next_is is_def (head ws) ≡ true → n ≡ suc levels →
               GivesMarked {s = a_def} (method_from around levels) ms ws r ns rest →
               GivesMarkedRule {s = a_def} (definition around) ms ws r ns rest
@@ -251,12 +253,12 @@ module _ (n : ℕ) (path : Path) (ms : List Mark) (ws : List Word) where
               (member_chosen ∙ cond-false _ _ _ i ∙ cond-false _ _ _ a ∙ cond-true _ _ _ d
               ∙ ap (λ v. deepen v (method_from around)) m) g
 
-          pub method_deep : (e : Fault) (ns : List Mark) → next_is is_def (head ws) ≡ true → n ≡ 0 → e ≡ f.Deep →
+          pub method_deep : (e : Fault) (ns : Noted) → next_is is_def (head ws) ≡ true → n ≡ 0 → e ≡ f.Deep →
               GivesMarkedRule {s = a_def} (definition around) ms ws (Err e) ns ws
           method_deep e ns d z u = deep {s = a_def} (definition around) ms ws e (member_chosen ∙ cond-false _ _ _ i
               ∙ cond-false _ _ _ a ∙ cond-true _ _ _ d ∙ ap (λ v. deepen v (method_from around)) z) u
 
-          pub no_member : (ns : List Mark) → next_is is_def (head ws) ≡ false →
+          pub no_member : (ns : Noted) → next_is is_def (head ws) ≡ false →
               GivesMarkedRule {s = a_def} (definition around) ms ws (Err f.Unexpected) ns ws
           no_member ns d = none {s = a_def} (definition around) ms ws ws f.Unexpected refl
               (member_chosen ∙ cond-false _ _ _ i ∙ cond-false _ _ _ a ∙ cond-false _ _ _ d) refl

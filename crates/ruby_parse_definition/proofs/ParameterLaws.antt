@@ -18,7 +18,7 @@ use Rattle.ruby_parse_cursor.specs.declared.fault.Fault.{Fault}
 use Rattle.ruby_parse_cursor.specs.declared.fault.Fault.TheVariants as f
 use Rattle.ruby_parse_steps.specs.Gives.{Stops, GivesRule}
 use Rattle.ruby_parse_definition.specs.Names.{HasSame}
-use Rattle.ruby_parse_definition.specs.Answers.{Leads}
+use Rattle.ruby_parse_definition.specs.Answers.{LeadsQuietly}
 use Rattle.ruby_parse_definition.proofs.Steps.{word, skip, picked, then, finish, stop, lacks, led}
 
 -- ---- the same names, in another order
@@ -51,7 +51,7 @@ module _ (names : List Name) where
   next_name w = only (more_parameters (names ++ w.text ∷ []))
 
   module _ (ms : List Mark) (ws mid : List Word) (p : next_is is_comma (head ws) ≡ true) (d : mid ≡ drop 1 ws) where
-    to_name : Leads {s = some_names} (only (more_parameters names)) ms ws (token (is_new_parameter names) next_name)
+    to_name : LeadsQuietly {s = some_names} (only (more_parameters names)) ms ws (token (is_new_parameter names) next_name)
         ms mid
     to_name = then (picked {s = some_names} (more_parameters names) (parameter_more names) ms ws (cond-true _ _ _ p))
         (skip {s = some_names} is_comma (token (is_new_parameter names) next_name) ms ws mid p d)
@@ -63,14 +63,14 @@ module _ (names : List Name) where
 
     pub parameter_goes_on : (w : Word) (longer : List Name) (rest : List Word) → mid ≡ w ∷ rest →
         is_new_parameter names w ≡ true → longer ≡ names ++ w.text ∷ [] →
-        Leads {s = some_names} (only (more_parameters names)) ms ws (only (more_parameters longer)) ms rest
+        LeadsQuietly {s = some_names} (only (more_parameters names)) ms ws (only (more_parameters longer)) ms rest
     parameter_goes_on w longer rest e n l =
-        then to_name (subst (λ k. Leads {s = some_names} (token (is_new_parameter names) next_name) ms mid
+        then to_name (subst (λ k. LeadsQuietly {s = some_names} (token (is_new_parameter names) next_name) ms mid
         (only (more_parameters k)) ms rest) (sym l)
         (word {s = some_names} (is_new_parameter names) next_name w ms mid rest e n))
 
   pub parameters_end : (ms : List Mark) (ws : List Word) → next_is is_comma (head ws) ≡ false →
-      Leads {s = some_names} (only (more_parameters names)) ms ws (give names) ms ws
+      LeadsQuietly {s = some_names} (only (more_parameters names)) ms ws (give names) ms ws
   parameters_end ms ws p = picked {s = some_names} (more_parameters names) (give names) ms ws (cond-false _ _ _ p)
 
 -- ---- the first one

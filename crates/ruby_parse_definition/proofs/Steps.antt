@@ -1,4 +1,4 @@
--- Steps of the reading of definitions, with the marks that are met.
+-- Steps of the reading of what has no marks.
 use Rattle.std.proofs.Common.{◌≡◌, ℕ, Bool, true, false, ◌==◌, ◌≤◌, ◌<◌, ◌-◌, List, [], ◌∷◌, drop, length, refl, sym}
 use Rattle.std.proofs.Common.{ap, ◌∙◌, subst, arith, Result, Ok, Err}
 use Rattle.std.proofs.lemmas.Bool.Decides.{nat_tests}
@@ -15,48 +15,39 @@ use Rattle.ruby_parse_cursor.specs.declared.fault.Fault.{Fault}
 use Rattle.ruby_parse_cursor.specs.declared.fault.Fault.TheVariants as f
 use Rattle.ruby_parse_steps.specs.Gives.{Comes, Stops, Gives, GivesRule}
 use Rattle.ruby_parse_steps.proofs.Descent.{token_fails, token_skips, chosen, called, stops_call}
-use Rattle.ruby_parse_marks.specs.Views.{Refused}
-use Rattle.ruby_parse_definition.specs.Answers.{GivesMarked, Leads, Counted}
+use Rattle.ruby_parse_definition.specs.Answers.{LeadsQuietly}
 
 -- ---- one step
-pub stays : {s : Sort} (p : Prod ruby s) (ms : List Mark) (ws : List Word) → Leads p ms ws p ms ws
+pub stays : {s : Sort} (p : Prod ruby s) (ms : List Mark) (ws : List Word) → LeadsQuietly p ms ws p ms ws
 stays p ms ws = λ o h. h
 
 pub word : {s : Sort} (test : Word → Bool) (next : Word → Prod ruby s) (w : Word) (ms : List Mark)
-    (ws mid : List Word) → ws ≡ w ∷ mid → test w ≡ true → Leads (token test next) ms ws (next w) ms mid
+    (ws mid : List Word) → ws ≡ w ∷ mid → test w ≡ true → LeadsQuietly (token test next) ms ws (next w) ms mid
 word test next w ms ws mid e p = λ o h. subst (λ l. Comes (token test next) ms l o) (sym e) (by_word p h)
 
 pub skip : {s : Sort} (test : Word → Bool) (p : Prod ruby s) (ms : List Mark) (ws mid : List Word) →
-    next_is test (head ws) ≡ true → mid ≡ drop 1 ws → Leads (token test λ _. p) ms ws p ms mid
+    next_is test (head ws) ≡ true → mid ≡ drop 1 ws → LeadsQuietly (token test λ _. p) ms ws p ms mid
 skip test p ms ws mid t d = λ o h. token_skips test (λ _. p) ms ws o t (λ _. subst (λ l. Comes p ms l o) d h)
 
 pub picked : {s : Sort} (rule : Rule s) (p : Prod ruby s) (ms : List Mark) (ws : List Word) →
-    choose ruby_choices rule ws ≡ take p → Leads (only rule) ms ws p ms ws
+    choose ruby_choices rule ws ≡ take p → LeadsQuietly (only rule) ms ws p ms ws
 picked rule p ms ws c = λ o h. chosen rule p ms ws o c h
 
-pub after : {s v : Sort} (rule : Rule v) (next : Val v → Prod ruby s) (y : Val v) (ms ns : List Mark)
-    (ws rest : List Word) → Comes (only rule) ms ws (done y ns rest) → Leads (call rule next) ms ws (next y) ns rest
-after rule next y ms ns ws rest a = λ o h. called rule next ms ns ws rest y o a h
-
 pub quietly : {s v : Sort} (rule : Rule v) (next : Val v → Prod ruby s) (y : Val v) (ms : List Mark)
-    (ws rest : List Word) → GivesRule {s = v} rule ws (Ok y) rest → Leads (call rule next) ms ws (next y) ms rest
+    (ws rest : List Word) → GivesRule {s = v} rule ws (Ok y) rest → LeadsQuietly (call rule next) ms ws (next y) ms rest
 quietly rule next y ms ws rest g = λ o h. called rule next ms ms ws rest y o (g ms) h
 
-pub counted : {s : Sort} (m : Mark) (p : Prod ruby s) (ms ns : List Mark) (ws : List Word) (u : Unit {0}) →
-    Counted ms m (Ok u) ns → Leads (mark m p) ms ws p ns ws
-counted m p ms ns ws u c = λ o h. by_mark c.0 (subst (λ l. Comes p l ws o) c.1 h)
-
 pub then : {s : Sort} {p q r : Prod ruby s} {ms ns os : List Mark} {ws mid rest : List Word} →
-    Leads p ms ws q ns mid → Leads q ns mid r os rest → Leads p ms ws r os rest
+    LeadsQuietly p ms ws q ns mid → LeadsQuietly q ns mid r os rest → LeadsQuietly p ms ws r os rest
 then a b = λ o h. a o (b o h)
 
 -- ---- the end
 pub finish : {s : Sort} (p : Prod ruby s) (x : Val s) (ms ns : List Mark) (ws rest : List Word) →
-    Leads {s = s} p ms ws (give x) ns rest → Comes {s = s} p ms ws (done x ns rest)
+    LeadsQuietly {s = s} p ms ws (give x) ns rest → Comes {s = s} p ms ws (done x ns rest)
 finish p x ms ns ws rest a = a (done x ns rest) by_give
 
 pub stop : {s : Sort} (p q : Prod ruby s) (ms ns : List Mark) (ws mid rest : List Word) (e : Fault) →
-    Leads p ms ws q ns mid → Stops q ns mid e rest → Stops p ms ws e rest
+    LeadsQuietly p ms ws q ns mid → Stops q ns mid e rest → Stops p ms ws e rest
 stop p q ms ns ws mid rest f.Unexpected a h = a (fault Unexpected rest) h
 stop p q ms ns ws mid rest f.Deep a h = a (fault Deep rest) h
 stop p q ms ns ws mid rest f.Barred a h = a (fault Barred rest) h
@@ -80,25 +71,9 @@ pub deep : {s : Sort} (rule : Rule s) (ms : List Mark) (ws : List Word) (e : Fau
     choose ruby_choices rule ws ≡ too_deep → e ≡ f.Deep → Stops (only rule) ms ws e ws
 deep rule ms ws e c u = subst (λ x. Stops (only rule) ms ws x ws) (sym u) (by_depth c)
 
-pub breaks : {s v : Sort} (rule : Rule v) (next : Val v → Prod ruby s) (ms : List Mark) (ws rest : List Word)
-    (e : Fault) → Stops (only rule) ms ws e rest → Stops (call rule next) ms ws e rest
-breaks rule next ms ws rest e h = stops_call rule next ms ws rest e h
-
 pub breaks_quietly : {s v : Sort} (rule : Rule v) (next : Val v → Prod ruby s) (ms : List Mark) (ws rest : List Word)
     (e : Fault) → GivesRule {s = v} rule ws (Err e) rest → Stops (call rule next) ms ws e rest
 breaks_quietly rule next ms ws rest e g = stops_call rule next ms ws rest e (g ms)
-
-pub clashes : {s : Sort} (m : Mark) (p : Prod ruby s) (ms : List Mark) (ws : List Word) (e : Fault) →
-    Refused ms m e → Stops (mark m p) ms ws e ws
-clashes m p ms ws f.Unexpected h = absurd h
-clashes m p ms ws f.Deep h = absurd h
-clashes m p ms ws f.Barred h = absurd h
-clashes m p ms ws (f.Twice at) h = (m, by_clash h.0, h.1)
-clashes m p ms ws f.Memory h = tt
-
-pub unmade : {s : Sort} (p : Prod ruby s) (ms : List Mark) (ws rest : List Word) (e : Fault) → e ≡ f.Memory →
-    Stops p ms ws e rest
-unmade p ms ws rest e u = subst (λ x. Stops p ms ws x rest) (sym u) tt
 
 -- ---- words of two signs
 is_same : (m n : ℕ) → (m == n) ≡ true → m ≡ n
@@ -124,12 +99,6 @@ word_shorter ws mid w e = let a : length ws ≡ length (w ∷ mid) = ap length e
 
 -- ---- what functions answer
 pub led : {s : Sort} (p q : Prod ruby s) (ws mid rest : List Word) (r : Result (Val s) Fault) →
-    ((ms : List Mark) → Leads p ms ws q ms mid) → Gives {s = s} q mid r rest → Gives {s = s} p ws r rest
+    ((ms : List Mark) → LeadsQuietly p ms ws q ms mid) → Gives {s = s} q mid r rest → Gives {s = s} p ws r rest
 led p q ws mid rest (Ok x) a g = λ ms. a ms (done x ms rest) (g ms)
 led p q ws mid rest (Err e) a g = λ ms. stop p q ms ms ws mid rest e (a ms) (g ms)
-
-pub led_marked : {s : Sort} (p q : Prod ruby s) (ms ns os : List Mark) (ws mid rest : List Word)
-    (r : Result (Val s) Fault) → Leads p ms ws q ns mid → GivesMarked {s = s} q ns mid r os rest →
-    GivesMarked {s = s} p ms ws r os rest
-led_marked p q ms ns os ws mid rest (Ok x) a g = a (done x os rest) g
-led_marked p q ms ns os ws mid rest (Err e) a g = stop p q ms ns ws mid rest e a g

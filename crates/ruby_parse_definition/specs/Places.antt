@@ -2,7 +2,8 @@
 use Rattle.std.specs.Prelude.{false}
 use Rattle.ruby_grammar.specs.Rules.{Body}
 use Rattle.ruby_grammar.specs.Definitions.{body}
+use Rattle.ruby_parse_marks.specs.Views.{Noted}
 use Rattle.ruby_parse_definition.specs.declared.place.Place.{Place}
 
-abbrev pub body_view : Place → Body
-body_view p = body p.levels false p.path.now
+abbrev pub body_view : Place → Noted → Body
+body_view p v = body p.levels false v.here

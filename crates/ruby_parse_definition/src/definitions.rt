@@ -1,15 +1,16 @@
 //! Definitions, modules and classes.
 
-ghost use Rattle.std.specs.Prelude.{◌≡◌, ◌≤◌, [], length};
+ghost use Rattle.std.specs.Prelude.{◌≤◌, [], length, OnOk};
 ghost use Rattle.ruby_grammar.specs.Definitions as spec;
 ghost use Rattle.ruby_grammar.specs.Rules as rules;
+ghost use Rattle.ruby_parse_marks.specs.Views.{SameBodies};
 ghost use Rattle.ruby_parse_definition.specs.Answers.{GivesMarked, GivesMarkedRule};
 ghost use Rattle.ruby_parse_definition.specs.Parts.{GivesBody};
 ghost use Rattle.ruby_parse_definition.specs.Places.{body_view};
 
 use crate::headers;
 use crate::members::other;
-use crate::place::Place;
+use crate::place::{Place, begins};
 use case_table::cases;
 use ruby_parse_cursor::signs::LINE;
 use ruby_parse_cursor::{Fault, Reader};
@@ -21,16 +22,17 @@ use ruby_words::{CLASS, END, MODULE};
 /// Definitions, each with its Line, which the last may lack.
 #[cycle(definition)]
 pub fn definitions(
-    place: Place<'_>,
+    place: Place,
     marks: &mut Marks,
     reader: &mut Reader<'_>,
 ) -> Result<Defs, Fault>
-    ensures reads { GivesMarkedRule (rules.definitions (body_view place.entry) []) marks.old reader.old result
+    ensures reads { GivesMarkedRule (rules.definitions (body_view place marks.old) []) marks.old reader.old result
         marks.new reader.new }
+    ensures bodies { OnOk result (SameBodies marks.old marks.new) }
     ensures shorter { length reader.new ≤ length reader.old }
 {
     let mut defs = Defs::new(place.alloc);
-    'lines: while place.begins(reader) {
+    'lines: while begins(marks, reader) {
         defs.push(definition(place, marks, reader)?)?;
         if !reader.sees(LINE) {
             return Ok(defs);
@@ -41,9 +43,10 @@ pub fn definitions(
 }
 
 #[cycle(definition)]
-fn definition(place: Place<'_>, marks: &mut Marks, reader: &mut Reader<'_>) -> Result<Def, Fault>
-    ensures reads { GivesMarkedRule (rules.definition (body_view place.entry)) marks.old reader.old result marks.new
+fn definition(place: Place, marks: &mut Marks, reader: &mut Reader<'_>) -> Result<Def, Fault>
+    ensures reads { GivesMarkedRule (rules.definition (body_view place marks.old)) marks.old reader.old result marks.new
         reader.new }
+    ensures bodies { OnOk result (SameBodies marks.old marks.new) }
     ensures shorter { length reader.new ≤ length reader.old }
 {
     cases!(reader.code();
@@ -61,8 +64,9 @@ fn definition(place: Place<'_>, marks: &mut Marks, reader: &mut Reader<'_>) -> R
 
 /// The definitions in a module or class, and its `end`.
 #[cycle(definition)]
-fn inside(place: Place<'_>, marks: &mut Marks, reader: &mut Reader<'_>) -> Result<Defs, Fault>
-    ensures reads { GivesBody (body_view place.entry) marks.old reader.old result marks.new reader.new }
+fn inside(place: Place, marks: &mut Marks, reader: &mut Reader<'_>) -> Result<Defs, Fault>
+    ensures reads { GivesBody (body_view place marks.old) marks.old reader.old result marks.new reader.new }
+    ensures bodies { OnOk result (SameBodies marks.old marks.new) }
     ensures shorter { length reader.new ≤ length reader.old }
 {
     let defs = definitions(place, marks, reader)?;
@@ -73,50 +77,37 @@ fn inside(place: Place<'_>, marks: &mut Marks, reader: &mut Reader<'_>) -> Resul
 /// A module, which has so many levels inside.
 #[cycle(definition)]
 fn module(
-    place: Place<'_>,
+    place: Place,
     levels: u32,
     marks: &mut Marks,
     reader: &mut Reader<'_>,
 ) -> Result<Def, Fault>
-    ensures reads { GivesMarked (spec.module_from (body_view place.entry) levels) marks.old reader.old result
+    ensures reads { GivesMarked (spec.module_from (body_view place marks.old) levels) marks.old reader.old result
         marks.new reader.new }
+    ensures bodies { OnOk result (SameBodies marks.old marks.new) }
     ensures shorter { length reader.new ≤ length reader.old }
 {
-    let opened = headers::module(place, marks, reader)?;
-    let within = Place {
-        levels,
-        path: &opened.path,
-        ..place
-    };
-    let body = inside(within, marks, reader)?;
-    Ok(Def::Module {
-        path: opened.name,
-        body,
-    })
+    let path = headers::module(place.alloc, marks, reader)?;
+    let body = inside(Place { levels, ..place }, marks, reader)?;
+    marks.close();
+    Ok(Def::Module { path, body })
 }
 
 /// A class, which has so many levels inside.
 #[cycle(definition)]
 fn class(
-    place: Place<'_>,
+    place: Place,
     levels: u32,
     marks: &mut Marks,
     reader: &mut Reader<'_>,
 ) -> Result<Def, Fault>
-    ensures reads { GivesMarked (spec.class_from (body_view place.entry) levels) marks.old reader.old result
+    ensures reads { GivesMarked (spec.class_from (body_view place marks.old) levels) marks.old reader.old result
         marks.new reader.new }
+    ensures bodies { OnOk result (SameBodies marks.old marks.new) }
     ensures shorter { length reader.new ≤ length reader.old }
 {
-    let (opened, parent) = headers::class(place, marks, reader)?;
-    let within = Place {
-        levels,
-        path: &opened.path,
-        ..place
-    };
-    let body = inside(within, marks, reader)?;
-    Ok(Def::Class {
-        path: opened.name,
-        parent,
-        body,
-    })
+    let (path, parent) = headers::class(place.alloc, marks, reader)?;
+    let body = inside(Place { levels, ..place }, marks, reader)?;
+    marks.close();
+    Ok(Def::Class { path, parent, body })
 }

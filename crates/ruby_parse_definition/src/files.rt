@@ -9,7 +9,7 @@ use ruby_parse_cursor::signs::LINE;
 use ruby_parse_cursor::{Fault, Reader};
 use ruby_parse_marks::Marks;
 use ruby_parse_steps::LEVELS;
-use ruby_types::{CPath, FileTree};
+use ruby_types::FileTree;
 use std::alloc::Global;
 
 /// A file behind its first Line, if it has one.
@@ -17,12 +17,10 @@ fn file_from(alloc: Global, reader: &mut Reader<'_>) -> Result<FileTree, Fault>
     ensures reads { GivesFileFrom reader.old result reader.new }
     ensures shorter { length reader.new ≤ length reader.old }
 {
-    let path = CPath::new(alloc);
     let mut marks = Marks::new(alloc);
     let place = Place {
         alloc,
         levels: LEVELS,
-        path: &path,
     };
     let defs = definitions(place, &mut marks, reader)?;
     Ok(FileTree { defs })

@@ -1,121 +1,99 @@
 //! What stands before the definitions in a module or class.
 
-ghost use Rattle.std.specs.Prelude.{◌≡◌, ◌≤◌, length};
-ghost use Rattle.ruby_grammar.specs.Definitions.{at_top};
+ghost use Rattle.std.specs.Prelude.{◌≤◌, length, IfOk, OnOk};
 ghost use Rattle.ruby_grammar.specs.Rules as rules;
-ghost use Rattle.ruby_parse_definition.specs.Answers.{GivesMarkedRule};
+ghost use Rattle.ruby_parse_marks.specs.Views.{act_view, SameBodies};
+ghost use Rattle.ruby_parse_definition.specs.Answers.{GivesMarkedRule, IsInside};
 ghost use Rattle.ruby_parse_definition.specs.Parts.{GivesPath, GivesParent, GivesModule, GivesClass};
-ghost use Rattle.ruby_parse_definition.specs.Places.{body_view};
 
-use crate::counting::count;
-use crate::paths::allowed_rest;
-use crate::place::Place;
-use ruby_parse_cursor::signs::{CONST, LESS, LINE};
+use crate::counting::open;
+use crate::paths::{Written, path_as_written};
+use ruby_parse_cursor::signs::{LESS, LINE};
 use ruby_parse_cursor::{Fault, Reader};
 use ruby_parse_marks::{Act, Marks};
-use ruby_parse_steps::{constant, longer};
+use ruby_parse_steps::constant;
 use ruby_types::{CPath, ConstRef};
 use ruby_words::{CLASS, MODULE};
+use std::alloc::Global;
 
-/// A path as it is written, and its place.
-#[derive(Drop)]
-pub struct Written {
-    pub path: CPath,
-    pub at: u32,
-}
-
-/// A module or class of which the definitions come next: its path as it is written, and the full one.
-#[derive(Drop)]
-pub struct Opened {
-    pub name: CPath,
-    pub path: CPath,
-}
-
-/// A path, which inside another definition is one name.
-fn path_as_written(place: Place<'_>, reader: &mut Reader<'_>) -> Result<Written, Fault>
-    ensures reads { GivesPath (at_top place.entry.path.now) reader.old result reader.new }
+/// A path, which inside another definition is one name. It counts behind its end.
+fn opened_path(
+    alloc: Global,
+    act: Act,
+    marks: &mut Marks,
+    reader: &mut Reader<'_>,
+) -> Result<Written, Fault>
+    ensures reads { GivesPath (act_view act) marks.old reader.old result marks.new reader.new }
+    ensures inside { IfOk result (λ p. IsInside marks.old p.path marks.new) }
     ensures shorter { length reader.new ≤ length reader.old }
 {
-    let first = reader.taken(CONST)?;
-    let path = longer(place.alloc, CPath::new(place.alloc), first.text)?;
-    let path = allowed_rest(place.alloc, place.is_top(), path, reader)?;
-    Ok(Written { path, at: first.at })
+    let path = path_as_written(alloc, marks.is_top(), reader)?;
+    open(marks, path.path.as_slice(), act, path.at)?;
+    Ok(path)
 }
 
-/// `module`, its path and a Line. It counts behind the Line.
-pub fn module(place: Place<'_>, marks: &mut Marks, reader: &mut Reader<'_>) -> Result<Opened, Fault>
-    ensures reads { GivesModule (body_view place.entry) marks.old reader.old result marks.new reader.new }
+/// `module`, its path and a Line.
+pub fn module(alloc: Global, marks: &mut Marks, reader: &mut Reader<'_>) -> Result<CPath, Fault>
+    ensures reads { GivesModule marks.old reader.old result marks.new reader.new }
+    ensures inside { IfOk result (λ name. IsInside marks.old name marks.new) }
     ensures shorter { length reader.new ≤ length reader.old }
 {
     reader.take(MODULE)?;
-    let written = path_as_written(place, reader)?;
+    let path = opened_path(alloc, Act::OpensModule, marks, reader)?;
     reader.take(LINE)?;
-    let path = place.path_of(&written.path)?;
-    count(marks, &path, Act::OpensModule, written.at)?;
-    Ok(Opened {
-        name: written.path,
-        path,
-    })
+    Ok(path.path)
 }
 
-/// `<`, a parent and a Line. The class counts behind the `<`, its parent behind the parent's path.
+/// `<`, a parent and a Line. The parent counts behind its path.
 fn some_parent(
-    place: Place<'_>,
+    alloc: Global,
     at: u32,
     marks: &mut Marks,
     reader: &mut Reader<'_>,
 ) -> Result<ConstRef, Fault>
-    ensures reads { GivesParent place.entry.path.now at marks.old reader.old result marks.new reader.new }
+    ensures reads { GivesParent marks.old.here at marks.old reader.old result marks.new reader.new }
+    ensures bodies { OnOk result (SameBodies marks.old marks.new) }
     ensures shorter { length reader.new ≤ length reader.old }
 {
     reader.take(LESS)?;
-    count(marks, place.path, Act::OpensClass, at)?;
-    let parent = constant(place.alloc, reader)?;
-    count(marks, place.path, Act::GivesParent, at)?;
+    let parent = constant(alloc, reader)?;
+    marks.add(Act::GivesParent, at)?;
     reader.take(LINE)?;
     Ok(parent)
 }
 
 /// Perhaps a parent of the class at the place, and a Line.
 fn parent(
-    place: Place<'_>,
+    alloc: Global,
     at: u32,
     marks: &mut Marks,
     reader: &mut Reader<'_>,
 ) -> Result<Option<ConstRef>, Fault>
-    ensures reads { GivesMarkedRule (rules.parent place.entry.path.now at) marks.old reader.old result marks.new
+    ensures reads { GivesMarkedRule (rules.parent marks.old.here at) marks.old reader.old result marks.new
         reader.new }
+    ensures bodies { OnOk result (SameBodies marks.old marks.new) }
     ensures shorter { length reader.new ≤ length reader.old }
 {
     if reader.sees(LESS) {
-        Ok(Some(some_parent(place, at, marks, reader)?))
+        Ok(Some(some_parent(alloc, at, marks, reader)?))
     } else {
         reader.take(LINE)?;
-        count(marks, place.path, Act::OpensClass, at)?;
         Ok(None)
     }
 }
 
 /// `class`, its path, perhaps a parent, and a Line.
 pub fn class(
-    place: Place<'_>,
+    alloc: Global,
     marks: &mut Marks,
     reader: &mut Reader<'_>,
-) -> Result<(Opened, Option<ConstRef>), Fault>
-    ensures reads { GivesClass (body_view place.entry) marks.old reader.old result marks.new reader.new }
+) -> Result<(CPath, Option<ConstRef>), Fault>
+    ensures reads { GivesClass marks.old reader.old result marks.new reader.new }
+    ensures inside { IfOk result (λ c. IsInside marks.old c.0 marks.new) }
     ensures shorter { length reader.new ≤ length reader.old }
 {
     reader.take(CLASS)?;
-    let written = path_as_written(place, reader)?;
-    let path = place.path_of(&written.path)?;
-    let inside = Place {
-        path: &path,
-        ..place
-    };
-    let parent = parent(inside, written.at, marks, reader)?;
-    let opened = Opened {
-        name: written.path,
-        path,
-    };
-    Ok((opened, parent))
+    let path = opened_path(alloc, Act::OpensClass, marks, reader)?;
+    let parent = parent(alloc, path.at, marks, reader)?;
+    Ok((path.path, parent))
 }

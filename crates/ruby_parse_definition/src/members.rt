@@ -1,129 +1,135 @@
 //! Definitions that hold no other definitions.
 
-ghost use Rattle.std.specs.Prelude.{◌≡◌, ◌≤◌, length, false};
+ghost use Rattle.std.specs.Prelude.{◌≡◌, ◌≤◌, length, false, OnOk};
 ghost use Rattle.descent.specs.Reading.{head};
 ghost use Rattle.ruby_grammar.specs.Choices.{next_is};
 ghost use Rattle.ruby_grammar.specs.Definitions as spec;
+ghost use Rattle.ruby_grammar.specs.Definitions.{body};
 ghost use Rattle.ruby_grammar.specs.Rules as rules;
 ghost use Rattle.ruby_grammar.specs.Signs.{is_const, is_module, is_class};
+ghost use Rattle.ruby_parse_marks.specs.Views.{SameBodies};
 ghost use Rattle.ruby_parse_definition.specs.Answers.{GivesMarked, GivesMarkedRule};
 ghost use Rattle.ruby_parse_definition.specs.Parts.{GivesReader};
 ghost use Rattle.ruby_parse_definition.specs.Places.{body_view};
 
-use crate::counting::count;
+use crate::counting::assign;
 use crate::methods::method;
 use crate::place::Place;
 use case_table::cases;
-use lists::Copying;
 use ruby_parse_cursor::signs::{ASSIGN, COMMA, CONST, SYM};
 use ruby_parse_cursor::{Fault, Reader, behind_sign};
 use ruby_parse_marks::{Act, Marks};
 use ruby_parse_steps::{constant, longer, opened};
-use ruby_types::{Def, Text, TextList};
+use ruby_types::{CPath, Def, Text, TextList};
 use ruby_words::{ATTR_READER, DEF, INCLUDE};
+use std::alloc::Global;
 
 /// A constant, `=` and its value. It counts behind the `=`.
-fn assigned(place: Place<'_>, marks: &mut Marks, reader: &mut Reader<'_>) -> Result<Def, Fault>
-    ensures reads { GivesMarked (spec.assign_from (body_view place.entry)) marks.old reader.old result marks.new
+fn assigned(place: Place, marks: &mut Marks, reader: &mut Reader<'_>) -> Result<Def, Fault>
+    ensures reads { GivesMarked (spec.assign_from (body_view place marks.old)) marks.old reader.old result marks.new
         reader.new }
+    ensures bodies { OnOk result (SameBodies marks.old marks.new) }
     ensures shorter { length reader.new ≤ length reader.old }
 {
     let word = reader.taken(CONST)?;
     reader.take(ASSIGN)?;
-    let path = longer(place.alloc, place.path.copy()?, word.text)?;
-    count(marks, &path, Act::Assigns, word.at)?;
+    let path = longer(place.alloc, CPath::new(place.alloc), word.text)?;
+    assign(marks, path.as_slice(), word.at)?;
     let name = Text::from_bytes(place.alloc, word.text)?;
     let value = place.expression(reader)?;
     Ok(Def::Assign { name, value })
 }
 
 /// `include` and a constant.
-fn included(place: Place<'_>, marks: &mut Marks, reader: &mut Reader<'_>) -> Result<Def, Fault>
+fn included(alloc: Global, marks: &mut Marks, reader: &mut Reader<'_>) -> Result<Def, Fault>
     ensures reads { GivesMarked spec.include_from marks.old reader.old result marks.new reader.new }
+    ensures bodies { OnOk result (SameBodies marks.old marks.new) }
     ensures shorter { length reader.new ≤ length reader.old }
 {
     reader.take(INCLUDE)?;
-    Ok(Def::Include(constant(place.alloc, reader)?))
+    Ok(Def::Include(constant(alloc, reader)?))
 }
 
 /// A symbol that names a reader. It counts behind the symbol, as a method of the name.
-fn reader_name(place: Place<'_>, marks: &mut Marks, reader: &mut Reader<'_>) -> Result<Text, Fault>
-    ensures reads { GivesReader place.entry.path.now marks.old reader.old result marks.new reader.new }
+fn reader_name(alloc: Global, marks: &mut Marks, reader: &mut Reader<'_>) -> Result<Text, Fault>
+    ensures reads { GivesReader marks.old.here marks.old reader.old result marks.new reader.new }
+    ensures bodies { OnOk result (SameBodies marks.old marks.new) }
     ensures shorter { length reader.new ≤ length reader.old }
 {
     let word = reader.taken(SYM)?;
-    let name = Text::from_bytes(place.alloc, behind_sign(word.text))?;
-    let act = Act::Defines {
-        single: false,
-        name: name.copy()?,
-    };
-    count(marks, place.path, act, word.at)?;
-    Ok(name)
+    let name = Vec::from_slice(alloc, behind_sign(word.text))?;
+    let single = false;
+    marks.add(Act::Defines { single, name }, word.at)?;
+    Ok(Text::from_bytes(alloc, behind_sign(word.text))?)
 }
 
 /// The readers that follow these, each behind a comma.
 fn more_readers(
-    place: Place<'_>,
+    alloc: Global,
     first: TextList,
     marks: &mut Marks,
     reader: &mut Reader<'_>,
 ) -> Result<TextList, Fault>
-    ensures reads { GivesMarkedRule (rules.more_readers place.entry.path.now first) marks.old reader.old result
+    ensures reads { GivesMarkedRule (rules.more_readers marks.old.here first) marks.old reader.old result
         marks.new reader.new }
+    ensures bodies { OnOk result (SameBodies marks.old marks.new) }
     ensures shorter { length reader.new ≤ length reader.old }
 {
     let mut names = first;
     'names: while reader.sees(COMMA) {
         reader.skip();
-        names.push(reader_name(place, marks, reader)?)?;
+        names.push(reader_name(alloc, marks, reader)?)?;
     }
     Ok(names)
 }
 
 /// `attr_reader` and its symbols.
-fn readers(place: Place<'_>, marks: &mut Marks, reader: &mut Reader<'_>) -> Result<Def, Fault>
-    ensures reads { GivesMarked (spec.readers_from (body_view place.entry)) marks.old reader.old result marks.new
+fn readers(alloc: Global, marks: &mut Marks, reader: &mut Reader<'_>) -> Result<Def, Fault>
+    ensures reads { GivesMarked (spec.readers_from (body 0 false marks.old.here)) marks.old reader.old result marks.new
         reader.new }
+    ensures bodies { OnOk result (SameBodies marks.old marks.new) }
     ensures shorter { length reader.new ≤ length reader.old }
 {
     reader.take(ATTR_READER)?;
-    let mut names = TextList::new(place.alloc);
-    names.push(reader_name(place, marks, reader)?)?;
-    Ok(Def::Readers(more_readers(place, names, marks, reader)?))
+    let mut names = TextList::new(alloc);
+    names.push(reader_name(alloc, marks, reader)?)?;
+    Ok(Def::Readers(more_readers(alloc, names, marks, reader)?))
 }
 
 /// What stands only inside a module or class.
-fn member(place: Place<'_>, marks: &mut Marks, reader: &mut Reader<'_>) -> Result<Def, Fault>
-    requires inside { spec.at_top place.path.now ≡ false }
+fn member(place: Place, marks: &mut Marks, reader: &mut Reader<'_>) -> Result<Def, Fault>
+    requires inside { spec.at_top marks.old.here ≡ false }
     requires no_const { next_is is_const (head reader.old) ≡ false }
     requires no_module { next_is is_module (head reader.old) ≡ false }
     requires no_class { next_is is_class (head reader.old) ≡ false }
-    ensures reads { GivesMarkedRule (rules.definition (body_view place.entry)) marks.old reader.old result marks.new
+    ensures reads { GivesMarkedRule (rules.definition (body_view place marks.old)) marks.old reader.old result marks.new
         reader.new }
+    ensures bodies { OnOk result (SameBodies marks.old marks.new) }
     ensures shorter { length reader.new ≤ length reader.old }
 {
     cases!(reader.code();
-        INCLUDE => included(place, marks, reader),
-        ATTR_READER => readers(place, marks, reader),
+        INCLUDE => included(place.alloc, marks, reader),
+        ATTR_READER => readers(place.alloc, marks, reader),
         DEF => {
             let levels = opened(place.levels)?;
-            method(place, levels, marks, reader)
+            method(place.alloc, levels, marks, reader)
         };
         Err(Fault::Unexpected)
     )
 }
 
 /// A definition that is no module and no class.
-pub fn other(place: Place<'_>, marks: &mut Marks, reader: &mut Reader<'_>) -> Result<Def, Fault>
+pub fn other(place: Place, marks: &mut Marks, reader: &mut Reader<'_>) -> Result<Def, Fault>
     requires no_module { next_is is_module (head reader.old) ≡ false }
     requires no_class { next_is is_class (head reader.old) ≡ false }
-    ensures reads { GivesMarkedRule (rules.definition (body_view place.entry)) marks.old reader.old result marks.new
+    ensures reads { GivesMarkedRule (rules.definition (body_view place marks.old)) marks.old reader.old result marks.new
         reader.new }
+    ensures bodies { OnOk result (SameBodies marks.old marks.new) }
     ensures shorter { length reader.new ≤ length reader.old }
 {
     if reader.sees(CONST) {
         assigned(place, marks, reader)
-    } else if place.is_top() {
+    } else if marks.is_top() {
         Err(Fault::Unexpected)
     } else {
         member(place, marks, reader)

@@ -1,27 +1,23 @@
 //! Methods.
 
-ghost use Rattle.std.specs.Prelude.{◌≡◌, ◌≤◌, false, length, IfOk};
+ghost use Rattle.std.specs.Prelude.{◌≡◌, ◌≤◌, false, length, OnOk};
 ghost use Rattle.ruby_grammar.specs.Definitions as spec;
-ghost use Rattle.ruby_grammar.specs.Marks.{defines};
 ghost use Rattle.ruby_grammar.specs.Rules as rules;
-ghost use Rattle.ruby_parse_marks.specs.Views.{mark_view};
+ghost use Rattle.ruby_parse_steps.specs.Gives.{Gives, GivesRule};
+ghost use Rattle.ruby_parse_marks.specs.Views.{SameBodies};
 ghost use Rattle.ruby_parse_statement.specs.Places.{around_view};
-ghost use Rattle.ruby_parse_definition.specs.Answers.{GivesMarked, GivesMarkedRule};
-ghost use Rattle.ruby_parse_definition.specs.Parts.{heading_view, GivesSignature, GivesStatements};
-ghost use Rattle.ruby_parse_definition.specs.Places.{body_view};
+ghost use Rattle.ruby_parse_definition.specs.Parts.{heading_view, GivesSignature, GivesMethod, GivesStatements};
 
 use crate::headings::{Heading, method_heading};
 use crate::parameters::{Parameters, all_parameters};
-use crate::place::Place;
-use lists::Copying;
 use ruby_parse_cursor::signs::{CLOSE_PAREN, LINE, OPEN_PAREN};
 use ruby_parse_cursor::{Fault, Reader};
-use ruby_parse_marks::{Act, Mark, Marks};
+use ruby_parse_marks::Marks;
 use ruby_parse_statement::{Body, statements};
 use ruby_parse_steps::opened;
 use ruby_types::{Def, Stmts};
 use ruby_words::{DEF, END};
-use std::alloc::{AllocError, Global};
+use std::alloc::Global;
 
 /// What stands before the statements of a method.
 #[derive(Drop)]
@@ -30,19 +26,12 @@ pub struct Signature<'a> {
     pub parameters: Parameters<'a>,
 }
 
-/// Parameters in parentheses, and a Line. The method counts behind its `(`.
-fn enclosed<'a>(
-    alloc: Global,
-    mark: Mark,
-    marks: &mut Marks,
-    reader: &mut Reader<'a>,
-) -> Result<Parameters<'a>, Fault>
-    ensures reads { GivesMarked (spec.parameters_from (mark_view mark) 0) marks.old reader.old result marks.new
-        reader.new }
+/// Parameters in parentheses, and a Line.
+fn enclosed<'a>(alloc: Global, reader: &mut Reader<'a>) -> Result<Parameters<'a>, Fault>
+    ensures reads { Gives (spec.parameters_from 0) reader.old result reader.new }
     ensures shorter { length reader.new ≤ length reader.old }
 {
     reader.take(OPEN_PAREN)?;
-    marks.add(mark)?;
     let names = all_parameters(alloc, reader)?;
     reader.take(CLOSE_PAREN)?;
     reader.take(LINE)?;
@@ -53,53 +42,34 @@ fn enclosed<'a>(
 fn parameter_list<'a>(
     alloc: Global,
     levels: u32,
-    mark: Mark,
-    marks: &mut Marks,
     reader: &mut Reader<'a>,
 ) -> Result<Parameters<'a>, Fault>
-    ensures reads { GivesMarkedRule (rules.parameter_list levels (mark_view mark)) marks.old reader.old result
-        marks.new reader.new }
+    ensures reads { GivesRule (rules.parameter_list levels) reader.old result reader.new }
     ensures shorter { length reader.new ≤ length reader.old }
 {
     if reader.sees(OPEN_PAREN) {
         opened(levels)?;
-        enclosed(alloc, mark, marks, reader)
+        enclosed(alloc, reader)
     } else {
         reader.take(LINE)?;
-        marks.add(mark)?;
         Ok(Parameters::new(alloc))
     }
 }
 
-/// What a method of this name counts as.
-fn mark_of(place: Place<'_>, heading: &Heading) -> Result<Mark, AllocError>
-    ensures { IfOk result (λ mark. mark_view mark ≡ spec.counts place.entry.path.now
-        (defines heading.now.single heading.now.name) heading.now.at) }
-{
-    Ok(Mark {
-        path: place.path.copy()?,
-        act: Act::Defines {
-            single: heading.single,
-            name: heading.name.copy()?,
-        },
-        at: heading.at,
-    })
-}
-
 /// `def`, the method's name and its parameters.
 fn method_signature<'a>(
-    place: Place<'_>,
+    alloc: Global,
     levels: u32,
     marks: &mut Marks,
     reader: &mut Reader<'a>,
 ) -> Result<Signature<'a>, Fault>
-    ensures reads { GivesSignature (body_view place.entry) levels marks.old reader.old result marks.new reader.new }
+    ensures reads { GivesSignature levels marks.old reader.old result marks.new reader.new }
+    ensures bodies { OnOk result (SameBodies marks.old marks.new) }
     ensures shorter { length reader.new ≤ length reader.old }
 {
     reader.take(DEF)?;
-    let heading = method_heading(place.alloc, reader)?;
-    let mark = mark_of(place, &heading)?;
-    let parameters = parameter_list(place.alloc, levels, mark, marks, reader)?;
+    let heading = method_heading(alloc, marks, reader)?;
+    let parameters = parameter_list(alloc, levels, reader)?;
     Ok(Signature {
         heading,
         parameters,
@@ -130,23 +100,23 @@ fn method_body<'a>(
 
 /// A method, which has so many levels inside.
 pub fn method<'a>(
-    place: Place<'_>,
+    alloc: Global,
     levels: u32,
     marks: &mut Marks,
     reader: &mut Reader<'a>,
 ) -> Result<Def, Fault>
-    ensures reads { GivesMarked (spec.method_from (body_view place.entry) levels) marks.old reader.old result
-        marks.new reader.new }
+    ensures reads { GivesMethod levels marks.old reader.old result marks.new reader.new }
+    ensures bodies { OnOk result (SameBodies marks.old marks.new) }
     ensures shorter { length reader.new ≤ length reader.old }
 {
-    let signature = method_signature(place, levels, marks, reader)?;
+    let signature = method_signature(alloc, levels, marks, reader)?;
     let Signature {
         heading,
         parameters,
     } = signature;
-    let params = parameters.texts(place.alloc)?;
+    let params = parameters.texts(alloc)?;
     let inner = Body {
-        alloc: place.alloc,
+        alloc,
         levels,
         may_set: may_set(&heading),
     };

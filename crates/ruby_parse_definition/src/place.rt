@@ -1,28 +1,26 @@
 //! Where a definition stands.
 
-ghost use Rattle.std.specs.Prelude.{◌≡◌, ◌≤◌, ◌<◌, ◌++◌, ◌||◌, ◌&&◌, not, [], length, IfOk, OnOk};
+ghost use Rattle.std.specs.Prelude.{◌≡◌, ◌≤◌, ◌||◌, ◌&&◌, not, [], length};
 ghost use Rattle.descent.specs.Reading.{head};
 ghost use Rattle.ruby_grammar.specs.Choices.{next_is, starts_top, starts_member, starts_definition};
-ghost use Rattle.ruby_grammar.specs.Definitions.{at_top};
 ghost use Rattle.ruby_grammar.specs.Rules as rules;
 ghost use Rattle.ruby_grammar.specs.Statements.{scope};
 ghost use Rattle.ruby_parse_steps.specs.Gives.{GivesRule};
 
-use lists::Copying;
 use ruby_parse_cursor::signs::CONST;
 use ruby_parse_cursor::{Fault, Locals, Reader};
 use ruby_parse_expression::expression;
+use ruby_parse_marks::Marks;
 use ruby_parse_steps::Scope;
-use ruby_types::{CPath, Expr};
+use ruby_types::Expr;
 use ruby_words::{ATTR_READER, CLASS, DEF, INCLUDE, MODULE};
-use std::alloc::{AllocError, Global};
+use std::alloc::Global;
 
-/// The levels of nesting that may still open, and the path of the module or class around.
+/// The levels of nesting that may still open.
 #[derive(Clone, Copy)]
-pub struct Place<'p> {
+pub struct Place {
     pub alloc: Global,
     pub levels: u32,
-    pub path: &'p CPath,
 }
 
 /// Whether a definition that may stand anywhere is at hand.
@@ -39,38 +37,17 @@ fn begins_member(reader: &Reader<'_>) -> bool
     reader.sees(INCLUDE) || reader.sees(ATTR_READER) || reader.sees(DEF)
 }
 
-impl Place<'_> {
-    /// Whether no module and no class stands around.
-    pub fn is_top(self) -> bool
-        ensures { result ≡ at_top self.entry.path.now }
-    {
-        match self.path.as_slice() {
-            [] => true,
-            _ => false,
-        }
-    }
+/// Whether a definition is at hand that may stand in the module or class that is open.
+pub fn begins(marks: &Marks, reader: &Reader<'_>) -> bool
+    ensures { result ≡ next_is (starts_definition marks.now.here) (head reader.now) }
+{
+    begins_top(reader) || (!marks.is_top() && begins_member(reader))
+}
 
-    /// Whether a definition is at hand that may stand here.
-    pub fn begins(self, reader: &Reader<'_>) -> bool
-        ensures { result ≡ next_is (starts_definition self.entry.path.now) (head reader.now) }
-    {
-        begins_top(reader) || (!self.is_top() && begins_member(reader))
-    }
-
-    /// The full path of what is written so here.
-    pub fn path_of(self, written: &CPath) -> Result<CPath, AllocError>
-        ensures { IfOk result (λ path. path ≡ self.entry.path.now ++ written.now) }
-    {
-        let mut path = self.path.copy()?;
-        'names: for name in written.as_slice() {
-            path.push(name.copy()?)?;
-        }
-        Ok(path)
-    }
-
+impl Place {
     /// An expression here. No variable is known outside methods.
     pub fn expression(self, reader: &mut Reader<'_>) -> Result<Expr, Fault>
-        ensures reads { GivesRule (rules.expression (scope self.entry.levels [])) reader.old result reader.new }
+        ensures reads { GivesRule (rules.expression (scope self.levels [])) reader.old result reader.new }
         ensures shorter { length reader.new ≤ length reader.old }
     {
         let locals = Locals::new(self.alloc);

@@ -13,7 +13,7 @@ use Rattle.ruby_parse_marks.specs.declared.paths.Inner.{Inner}
 use Rattle.ruby_parse_marks.specs.declared.deeds.Method.{Method}
 use Rattle.ruby_parse_marks.specs.Paths.{latest_first, path_at, Numbers, Grown, Advanced}
 use Rattle.ruby_parse_marks.specs.Deeds.{Done, Does, clashes_at, done_at, with_number, same_method}
-use Rattle.ruby_parse_marks.specs.Views.{act_view, Noted, clashes, clashes_with, inside, outside, Adds}
+use Rattle.ruby_parse_marks.specs.Views.{act_view, Noted, clashes, clashes_with, inside, outside, SameBodies, Adds}
 use Rattle.ruby_parse_marks.specs.Noted.{deed_at, method_at, deeds_at, bodies_at, noted, AreWithin, HaveBodies, IsSound}
 use Rattle.ruby_parse_marks.proofs.PathLaws.{latest_more, length_latest, is_number, grown_itself, grown_more}
 use Rattle.ruby_parse_marks.proofs.PathLaws.{is_top_path}
@@ -150,10 +150,12 @@ module _ (es : List (Inner × ℕ)) (n : ℕ) (ns : List ℕ) (d : Done) (s : Is
 
       -- what is done counts besides
       pub adds : Does d n a true e → Adds v (counts v.here (act_view a) at) (noted es n ns e)
-      adds h = subst (λ w. Adds w (counts w.here (act_view a) at) (noted es n ns e)) q (
-        (refl, refl),
-        λ x. ap (λ k. list_any (clashes_with x) (deeds_at rs k)) h.1 ∙ done_more rs n x d a at,
-      )
+      adds h = subst (λ w. Adds w (counts w.here (act_view a) at) (noted es n ns e)) q
+          (λ x. ap (λ k. list_any (clashes_with x) (deeds_at rs k)) h.1 ∙ done_more rs n x d a at)
+
+      -- in the same bodies
+      pub same_places : SameBodies v (noted es n ns e)
+      same_places = subst (λ w. SameBodies w (noted es n ns e)) q (refl, refl)
 
       -- nothing changes where it isn't done
       pub unchanged : Does d n a false e → noted es n ns e ≡ v

@@ -35,16 +35,16 @@ abbrev pub clashes : Noted → Mark → Bool
 clashes v m = list_any (clashes_with m) v.deeds
 
 -- It is what these marks did: the same marks clash with it.
-abbrev pub Tells : Noted → List Mark → Type 0
-Tells v ms = (m : Mark) → clashes v m ≡ clashes_any ms m
+pub record Tells (v : Noted) (ms : List Mark) : Type 0 where
+  pub tells : (m : Mark) → clashes v m ≡ clashes_any ms m
 
 -- the same modules and classes are open
 abbrev pub SameBodies : Noted → Noted → Type 0
 SameBodies v w = (w.here ≡ v.here) × (w.around ≡ v.around)
 
--- The mark counts besides, in the same bodies.
+-- The mark counts besides.
 abbrev pub Adds : Noted → Mark → Noted → Type 0
-Adds v m w = SameBodies v w × ((x : Mark) → clashes w x ≡ (clash x m || clashes v x))
+Adds v m w = (x : Mark) → clashes w x ≡ (clash x m || clashes v x)
 
 -- why a mark isn't added: it clashes, or memory lacks
 abbrev pub Refused : Noted → Mark → Fault → Type 0

@@ -3,7 +3,7 @@
 ghost use Rattle.std.specs.Prelude.{◌≡◌, [], false, IfOk, IfErr, OnOk, OnErr};
 ghost use Rattle.ruby_grammar.specs.Definitions.{at_top, counts};
 ghost use Rattle.ruby_parse_marks.specs.Paths.{Reaches, Keeps};
-ghost use Rattle.ruby_parse_marks.specs.Views.{act_view, clashes, inside, outside, Adds, Refused};
+ghost use Rattle.ruby_parse_marks.specs.Views.{act_view, clashes, inside, outside, SameBodies, Adds, Refused};
 
 use crate::act::Act;
 use crate::acts::{done, nothing};
@@ -103,6 +103,7 @@ impl Marks {
     pub fn add(&mut self, act: Act, at: u32) -> Result<(), Fault>
         ensures clear { OnOk result (clashes self.old (counts self.old.here (act_view act) at) ≡ false) }
         ensures added { OnOk result (Adds self.old (counts self.old.here (act_view act) at) self.new) }
+        ensures bodies { OnOk result (SameBodies self.old self.new) }
         ensures refused { IfErr result (λ e. Refused self.old (counts self.old.here (act_view act) at) e) }
         ensures stays { OnErr result (self.new ≡ self.old) }
     {

@@ -5,7 +5,7 @@ use Rattle.ruby_types.specs.declared.tree.ConstRef.{ConstRef}
 use Rattle.ruby_types.specs.declared.tree.Def.{Def}
 use Rattle.ruby_types.specs.declared.tree.Def.TheVariants as def
 use Rattle.ruby_grammar.specs.Signs.{has, is_variable}
-use Rattle.ruby_grammar.specs.Marks.{Mark, opens_class, defines}
+use Rattle.ruby_grammar.specs.Marks.{Mark, opens_class, defines, opens_module}
 use Rattle.ruby_grammar.specs.Rules.{Name, Path, Body, Heading, Block, file, definitions, more_definitions, definition}
 use Rattle.ruby_grammar.specs.Rules.{parent, heading, parameter_list, parameters, more_parameters, more_readers}
 use Rattle.ruby_grammar.specs.Values.{behind_sign}
@@ -52,21 +52,28 @@ path_formed : (around names : Path) (n : Name) → IsPath names → (r.at_top ar
     d.FormedPath around names
 path_formed around names n h e = (h, inner (r.at_top around) names n e)
 
-class_formed : (path names : Path) (p : Option ConstRef) (body : List Def) (ns ds : List d.Deed) →
-    d.FormedPath path names → Parent (path ++ names) p ns → d.FormedDef (path ++ names) d.several_definitions body ds →
-    d.FormedDef path d.definition (def.Class names p body) (ns ++ ds)
-class_formed path names None body ns ds h e i =
-    subst (λ l. d.FormedDef path d.definition (def.Class names None body) (l ++ ds)) (sym e) (d.is_class h i)
-class_formed path names (Some c) body ns ds h e i =
-    subst (λ l. d.FormedDef path d.definition (def.Class names (Some c) body) (l ++ ds)) (sym e.1)
-    (d.is_subclass h e.0 i)
+module_formed : (path names : Path) (body : List Def) (ks ds : List d.Deed) → d.FormedPath path names →
+    ks ≡ d.deed (path ++ names) opens_module ∷ [] → d.FormedDef (path ++ names) d.several_definitions body ds →
+    d.FormedDef path d.definition (def.Module names body) (ks ++ ds)
+module_formed path names body ks ds h q i =
+    subst (λ l. d.FormedDef path d.definition (def.Module names body) (l ++ ds)) (sym q) (d.is_module h i)
+
+class_formed : (path names : Path) (p : Option ConstRef) (body : List Def) (ks ns ds : List d.Deed) →
+    d.FormedPath path names → ks ≡ d.deed (path ++ names) opens_class ∷ [] → Parent (path ++ names) p ns →
+    d.FormedDef (path ++ names) d.several_definitions body ds →
+    d.FormedDef path d.definition (def.Class names p body) ((ks ++ ns) ++ ds)
+class_formed path names None body ks ns ds h q e i =
+    subst (λ k. d.FormedDef path d.definition (def.Class names None body) ((k ++ ns) ++ ds)) (sym q)
+    (subst (λ l. d.FormedDef path d.definition (def.Class names None body)
+    ((d.deed (path ++ names) opens_class ∷ l) ++ ds)) (sym e) (d.is_class h i))
+class_formed path names (Some c) body ks ns ds h q e i =
+    subst (λ k. d.FormedDef path d.definition (def.Class names (Some c) body) ((k ++ ns) ++ ds)) (sym q)
+    (subst (λ l. d.FormedDef path d.definition (def.Class names (Some c) body)
+    ((d.deed (path ++ names) opens_class ∷ l) ++ ds)) (sym e.1) (d.is_subclass h e.0 i))
 
 -- Each production of the rule of a class's parent gives formed trees.
 pub fine_parent : (path : Path) (at : ℕ) → EachFine (parent path at)
-fine_parent path at = (
-  λ a w v s b y n c h w' v' s' b'. (h.0, ap (λ l. d.deed path opens_class ∷ l) h.1),
-  (λ a w v s b. refl, tt),
-)
+fine_parent path at = (λ a w v s b y n c h w' v' s' b'. h, (λ a w v s b. refl, tt))
 
 -- ---- members
 
@@ -74,9 +81,9 @@ method_formed : (here : Body) (h : Heading) (names : List Name) (n : List d.Deed
     r.at_top here.path ≡ false → here.anywhere ≡ false → IsMethodName h.name → d.FormedParameters [] names →
     n ≡ d.deed here.path (defines h.single h.name) ∷ [] →
     t.FormedStmt (r.may_set here.anywhere h) t.several names body.stmts body.names →
-    d.FormedDef here.path d.definition (def.Method h.single h.name names body.stmts) (n ++ [])
+    d.FormedDef here.path d.definition (def.Method h.single h.name names body.stmts) ((n ++ []) ++ [])
 method_formed here h names n body top z i p e b =
-    subst (λ l. d.FormedDef here.path d.definition (def.Method h.single h.name names body.stmts) (l ++ [])) (sym e)
+    subst (λ l. d.FormedDef here.path d.definition (def.Method h.single h.name names body.stmts) ((l ++ []) ++ [])) (sym e)
     (d.is_method top i p (subst (λ v. t.FormedStmt (r.may_set v h) t.several names body.stmts body.names) z b))
 
 member_fine : (here : Body) (top : Bool) → r.at_top here.path ≡ top →
@@ -89,7 +96,7 @@ member_fine here false e = (
         d.is_readers e (g (d.deed here.path (defines false (behind_sign w'.text)) ∷ [])
         (first_reader here.path (behind_sign w'.text) (symbol_of w' v' s'))),
     opened (definition here) here.levels (r.method_from here)
-        (λ m a w v s b h n c i names n' c' p l n2 c2 g w' v' s' b' z. method_formed here h names n' l e z i p.0 p.1
+        (λ m a w v s b h n c i names n' c' p l n2 c2 g w' v' s' b' z. method_formed here h names n l e z i.0 p i.1
         (g names (no_statements (r.may_set here.anywhere h) names))),
   ),
 )
@@ -100,11 +107,12 @@ fine_definition here = each_append (λ p. Fine (definition here) p) (r.top_forms
   λ a w v s b w' v' s' b' x n c h z. d.is_assignment (const_of w v s) h,
   opened_then (definition here) here.levels (r.module_from here) _
       (λ m a w v s b w' v' s' b' path n c h w2 v2 s2 b2 y n' c' g w3 v3 s3 b3 z.
-      d.is_module (path_formed here.path path w'.text (h.0 (const_of w' v' s', tt)) h.1)
+      module_formed here.path path y n n' (path_formed here.path path w'.text (h.0 (const_of w' v' s', tt)) h.1) h.2
       (g z [] (no_definitions (here.path ++ path))))
       (opened (definition here) here.levels (r.class_from here)
       (λ m a w v s b w' v' s' b' path n c h p n' c' i y n2 c2 g w2 v2 s2 b2 z.
-      class_formed here.path path p y n' n2 (path_formed here.path path w'.text (h.0 (const_of w' v' s', tt)) h.1) i
+      class_formed here.path path p y n n' n2 (path_formed here.path path w'.text (h.0 (const_of w' v' s', tt)) h.1) h.2
+      i
       (g z [] (no_definitions (here.path ++ path))))),
 )
     (member_fine here (r.at_top here.path) refl)
@@ -112,15 +120,17 @@ fine_definition here = each_append (λ p. Fine (definition here) p) (r.top_forms
 -- ---- headings, parameters and readers
 
 -- Each production of the rule of a method's heading gives formed trees.
-pub fine_heading : EachFine heading
-fine_heading = (λ a w v s b w' v' s' b' w2 v2 s2 b2. name_of w2 v2 s2, (λ a w v s b. name_of w v s, tt))
+pub fine_heading : (path : Path) → EachFine (heading path)
+fine_heading path = (
+  λ a w v s b w' v' s' b' w2 v2 s2 b2. (name_of w2 v2 s2, refl),
+  (λ a w v s b. (name_of w v s, refl), tt),
+)
 
 -- Each production of the rule of parameters in parentheses gives formed trees.
-pub fine_parameter_list : (levels : ℕ) (m : Mark) → EachFine (parameter_list levels m)
-fine_parameter_list levels m = (
-  λ a w v s b. (tt, refl),
-  opened (parameter_list levels m) levels (r.parameters_from m)
-      (λ n a w v s b y k c h w' v' s' b' w2 v2 s2 b2. (h, refl)),
+pub fine_parameter_list : (levels : ℕ) → EachFine (parameter_list levels)
+fine_parameter_list levels = (
+  λ a w v s b. tt,
+  opened (parameter_list levels) levels r.parameters_from (λ n a w v s b y k c h w' v' s' b' w2 v2 s2 b2. h),
 )
 
 -- Each production of the rule of parameters gives formed trees.

@@ -6,6 +6,7 @@ use Rattle.ruby_token.proofs.Words.{split_if}
 use Rattle.ruby_grammar.specs.Signs.{Level, units, products, sums, comparisons, equalities, conjunctions, disjunctions}
 use Rattle.ruby_grammar.specs.Signs.{has}
 use Rattle.ruby_grammar.specs.Marks.{Mark}
+use Rattle.ruby_grammar.specs.Rules.{PathOpening, opened_path}
 use Rattle.ruby_grammar.specs.Rules.{Name, Scope, path_rest, constant, expression, choice_rest, operators}
 use Rattle.ruby_grammar.specs.Rules.{more_operators, unary, postfix, more_postfix, primary, name_rest}
 use Rattle.ruby_grammar.specs.Rules.{perhaps_arguments, members, more_members, pairs, more_pairs, pair, text_parts}
@@ -33,6 +34,14 @@ fine_path true (Some m) names = (
 )
 fine_path false None names = (λ a. (λ p. p, λ z. refl, refl), tt)
 fine_path false (Some m) names = (λ a. (λ p. p, λ z. refl, refl), tt)
+
+-- the rest of a path that is opened, and its deed
+pub fine_opened : (more : Bool) (how : PathOpening) (names : List Name) → EachFine (opened_path more how names)
+fine_opened true how names = (
+  λ a w t s b w' t' s' b' y n c h. (λ p. h.0 (path_push names w'.text p (const_of w' t' s')), λ z. cc, h.2),
+  (λ a. (λ p. p, λ z. refl, refl), tt),
+)
+fine_opened false how names = (λ a. (λ p. p, λ z. refl, refl), tt)
 
 constant_from : (top : Bool) (ending : Option Mark) → Fine (constant ending) (e.constant_from top ending)
 constant_from top None = λ a w t s b y n c h. (h.0 (const_of w t s, tt), refl)

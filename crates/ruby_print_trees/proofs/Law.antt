@@ -4,6 +4,7 @@ use Rattle.ruby_types.specs.declared.tree.FileTree.{FileTree}
 use Rattle.ruby_token.specs.Cut.{done}
 use Rattle.descent.specs.Grammar.{Prod, Item, word, marked, Among, Clear}
 use Rattle.ruby_grammar.specs.Marks.{Mark, clash, clashes_any}
+use Rattle.ruby_grammar.specs.Rules.{opened_path}
 use Rattle.ruby_grammar.specs.Rules.{ruby, Sort, Rule, file, definitions, more_definitions, definition, path_rest}
 use Rattle.ruby_grammar.specs.Rules.{parent, constant, heading, parameter_list, parameters, more_parameters}
 use Rattle.ruby_grammar.specs.Rules.{more_readers, statements, more_statements, statement, simple_statement}
@@ -28,10 +29,11 @@ fine_rule _ (definitions here ds) = b.fine_definitions here ds
 fine_rule _ (more_definitions here ds) = b.fine_more_definitions here ds
 fine_rule _ (definition here) = b.fine_definition here
 fine_rule _ (path_rest more ending names) = e.fine_path more ending names
+fine_rule _ (opened_path more how names) = e.fine_opened more how names
 fine_rule _ (parent path at) = b.fine_parent path at
 fine_rule _ (constant ending) = e.fine_constant ending
-fine_rule _ heading = b.fine_heading
-fine_rule _ (parameter_list levels m) = b.fine_parameter_list levels m
+fine_rule _ (heading path) = b.fine_heading path
+fine_rule _ (parameter_list levels) = b.fine_parameter_list levels
 fine_rule _ parameters = b.fine_parameters
 fine_rule _ (more_parameters names) = b.fine_more_parameters names
 fine_rule _ (more_readers path names) = b.fine_readers path names

@@ -13,8 +13,9 @@ use Rattle.ruby_token.specs.Cut.{is_big}
 use Rattle.descent.specs.Grammar.{Prod, give, token, call, mark, Item, word, marked}
 use Rattle.ruby_grammar.specs.Words.{Word}
 use Rattle.ruby_grammar.specs.Signs.{is_text_piece}
-use Rattle.ruby_grammar.specs.Marks.{Mark, opens_class, gives_parent}
+use Rattle.ruby_grammar.specs.Marks.{Mark, opens_class, gives_parent, defines}
 use Rattle.ruby_grammar.specs.Rules.{ruby, Val, Name, Path, Sort, Rule, file, definitions, more_definitions, definition}
+use Rattle.ruby_grammar.specs.Rules.{opened_path}
 use Rattle.ruby_grammar.specs.Rules.{path_rest, parent, constant, heading, parameter_list, parameters, more_parameters}
 use Rattle.ruby_grammar.specs.Rules.{more_readers, statements, more_statements, statement, simple_statement}
 use Rattle.ruby_grammar.specs.Rules.{condition_behind, then_or_line, perhaps_line, arms_rest, perhaps_expression}
@@ -125,8 +126,8 @@ PerhapsPiece true (Some w) = is_text_piece w ≡ true
 
 -- A class's parent is a constant where it is there, and giving it is its one deed.
 abbrev pub Parent : Path → Option ConstRef → List d.Deed → Type 0
-Parent path None n = n ≡ d.deed path opens_class ∷ []
-Parent path (Some c) n = f.IsConstant c × (n ≡ d.deed path opens_class ∷ d.deed path gives_parent ∷ [])
+Parent path None n = n ≡ []
+Parent path (Some c) n = f.IsConstant c × (n ≡ d.deed path gives_parent ∷ [])
 
 -- What is known of the value that a rule says behind a word, and of the deeds met in it.
 abbrev pub Meaning : {s : Sort} → Rule s → Option Word → Val s → List d.Deed → Type 0
@@ -138,10 +139,12 @@ Meaning (more_definitions here ds) a y n = here.anywhere ≡ false → (es : Lis
 Meaning (definition here) a y n = here.anywhere ≡ false → d.FormedDef here.path d.definition y n
 Meaning (path_rest more ending names) a y n = (IsPath names → IsPath y) × (more ≡ false → y ≡ names)
     × (n ≡ ending_deeds ending)
+Meaning (opened_path more how names) a y n = (IsPath names → IsPath y) × (more ≡ false → y ≡ names)
+    × (n ≡ d.deed (how.outer ++ y) how.act ∷ [])
 Meaning (parent path at) a y n = Parent path y n
 Meaning (constant ending) a y n = f.IsConstant y × (n ≡ ending_deeds ending)
-Meaning heading a y n = IsMethodName y.name
-Meaning (parameter_list levels m) a y n = d.FormedParameters [] y × (n ≡ deed_of m ∷ [])
+Meaning (heading path) a y n = IsMethodName y.name × (n ≡ d.deed path (defines y.single y.name) ∷ [])
+Meaning (parameter_list levels) a y n = d.FormedParameters [] y
 Meaning parameters a y n = d.FormedParameters [] y
 Meaning (more_parameters names) a y n = Parameters names → d.FormedParameters [] y
 Meaning (more_readers path names) a y n = (es : List d.Deed) → Readers path names es → d.FormedReaders path y (es ++ n)

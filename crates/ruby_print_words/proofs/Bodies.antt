@@ -1,4 +1,5 @@
 -- Definitions, of what they are made of.
+use Rattle.std.proofs.Common.{subst, ◌∙◌}
 use Rattle.std.proofs.Common.{◌≡◌, ℕ, zero, suc, Bool, true, false, not, ◌&&◌, List, [], ◌∷◌, ◌++◌, map, refl, sym, ap}
 use Rattle.std.proofs.Common.{append_assoc, append-nil, codes, Some, None}
 use Rattle.ruby_types.specs.declared.tree.ConstRef.{ConstRef}
@@ -13,6 +14,7 @@ use Rattle.ruby_print.specs.Statements.{deeper}
 use Rattle.ruby_print.specs.Definitions.{symbol}
 use Rattle.ruby_grammar.specs.Signs.{has, name_sign}
 use Rattle.ruby_grammar.specs.Marks.{Mark, assigns, opens_module, opens_class, gives_parent, defines}
+use Rattle.ruby_grammar.specs.Rules.{PathOpening, opened_path}
 use Rattle.ruby_grammar.specs.Rules.{ruby, Name, Path, Body, Heading, a_def, path_rest, parameter_list, more_parameters}
 use Rattle.ruby_grammar.specs.Rules.{more_readers}
 use Rattle.ruby_grammar.specs.Rules as rule
@@ -65,12 +67,21 @@ definitions_more path d xs ds es l h k = record {
 
 -- ---- modules and classes
 
--- the rest of a definition's path
-path_rest_reads : (many : Bool) (m : Name) (names : List Name) → IsInner many (m ∷ names) →
-    Reads (path_rest many None (m ∷ [])) (path_more names) (m ∷ names)
-path_rest_reads true m names h = path_reads (m ∷ []) names
-path_rest_reads false m [] h = reads first given
-path_rest_reads false m (o ∷ names) h = absurd h
+-- the rest of a definition's path, and its deed
+opened_told : (how : PathOpening) (before names all : List Name) (n : ℕ) → all ≡ before ++ names →
+    Tells n (opened_path true how before) (path_more names) (deed (how.outer ++ all) how.act ∷ []) all
+opened_told how before [] all n e =
+    subst (λ l. Tells n (opened_path true how before) [] (deed (how.outer ++ l) how.act ∷ []) l)
+    (sym (e ∙ append-nil before)) (tells (later first) (m_mark m_given))
+opened_told how before (o ∷ names) all n e =
+    tells first (m_takes refl (m_takes refl
+    (m_says (opened_told how (before ++ o ∷ []) names all _ (e ∙ sym (append_assoc before (o ∷ []) names))))))
+
+opened_in : (many : Bool) (how : PathOpening) (m : Name) (names : List Name) (n : ℕ) → IsInner many (m ∷ names) →
+    Tells n (opened_path many how (m ∷ [])) (path_more names) (deed (how.outer ++ m ∷ names) how.act ∷ []) (m ∷ names)
+opened_in true how m names n h = opened_told how (m ∷ []) names (m ∷ names) n refl
+opened_in false how m [] n h = tells first (m_mark m_given)
+opened_in false how m (o ∷ names) n h = absurd h
 
 -- A printed module is read as it is.
 pub module_read : (path : Path) (names : List Name) (xs : List Def) (ds : List Deed) (l : ℕ) →
@@ -82,8 +93,8 @@ module_read path (m ∷ names) xs ds (suc l) f h = record {
   read = λ n indent.
       tells_over (pieces_of_definition (def.Module (m ∷ names) xs) (def.outs-Module (m ∷ names) xs) indent)
       (tells (later first) (m_takes refl
-      (m_takes refl (m_then (tells_of (path_rest_reads (at_top path) m names f.1))
-      (m_takes refl (m_mark (m_then_plain (h.read _ (deeper indent) []) (m_takes refl m_given))))))));
+      (m_takes refl (m_then (opened_in (at_top path) _ m names _ f.1)
+      (m_takes refl (m_then_plain (h.read _ (deeper indent) []) (m_takes refl m_given)))))));
 }
 
 -- A printed class without a parent is read as it is.
@@ -95,8 +106,8 @@ class_read path (m ∷ names) xs ds (suc l) f h = record {
   read = λ n indent.
       tells_over (pieces_of_definition (def.Class (m ∷ names) None xs) (def.outs-Class (m ∷ names) None xs) indent)
       (tells (later (later first))
-      (m_takes refl (m_takes refl (m_then (tells_of (path_rest_reads (at_top path) m names f.1))
-      (m_then {us = newline ∷ []} (tells (later first) (m_takes refl (m_mark m_given)))
+      (m_takes refl (m_takes refl (m_then (opened_in (at_top path) _ m names _ f.1)
+      (m_then {us = newline ∷ []} (tells (later first) (m_takes refl m_given))
       (m_then_plain (h.read _ (deeper indent) []) (m_takes refl m_given)))))));
 }
 
@@ -123,10 +134,10 @@ constant_marked m c gap n h = constant_told m c.top c.path gap n h
 
 parent_told : (path : Path) (at : ℕ) (c : ConstRef) (n : ℕ) → IsConstant c →
     Tells n (rule.parent path at) (mark space op.Less (codes "<") ∷ (constant space c ++ newline ∷ []))
-    (deed path opens_class ∷ deed path gives_parent ∷ []) (Some c)
+    (deed path gives_parent ∷ []) (Some c)
 parent_told path at c n h =
     tells first (m_takes refl
-    (m_mark (m_then_plain (constant_marked (counts path gives_parent at) c space _ h) (m_takes refl m_given))))
+    (m_then_plain (constant_marked (counts path gives_parent at) c space _ h) (m_takes refl m_given)))
 
 -- A printed class with a parent is read as it is.
 pub subclass_read : (path : Path) (names : List Name) (c : ConstRef) (xs : List Def) (ds : List Deed) (l : ℕ) →
@@ -139,7 +150,7 @@ subclass_read path (m ∷ names) c xs ds (suc l) f i h = record {
       tells_over (pieces_of_definition (def.Class (m ∷ names) (Some c) xs) (def.outs-Class (m ∷ names) (Some c) xs)
       indent)
       (tells (later (later first))
-      (m_takes refl (m_takes refl (m_then (tells_of (path_rest_reads (at_top path) m names f.1))
+      (m_takes refl (m_takes refl (m_then (opened_in (at_top path) _ m names _ f.1)
       (m_over (ap (λ t. mark space op.Less (codes "<") ∷ t) (sym (append_assoc (constant space c) (newline ∷ []) _)))
       (m_then (parent_told (path ++ m ∷ names) _ c _ i)
       (m_then_plain (h.read _ (deeper indent) []) (m_takes refl m_given))))))));
@@ -209,16 +220,12 @@ readers_read path names ds l e h =
 
 -- ---- methods
 
--- the place of a method's name behind `def`
-abbrev name_place : Bool → Name → ℕ → ℕ
-name_place true called n = (word_at (behind_piece (behind_piece n (name space (codes "self"))) dot) (name [] called)).at
-name_place false called n = (word_at n (name space called)).at
-
-heading_told : (single : Bool) (called : Name) → name_sign called ≡ 0 → (n : ℕ) →
-    Tells n rule.heading (heading single called) []
-    (record { single = single; name = called; at = name_place single called n })
-heading_told true called free n = tells first (m_takes refl (m_takes refl (m_takes (is_free called [] free 0) m_given)))
-heading_told false called free n = tells (later first) (m_takes (is_free called space free 0) m_given)
+heading_told : (path : Path) (single : Bool) (called : Name) → name_sign called ≡ 0 → (n : ℕ) →
+    Tells n (rule.heading path) (heading single called) (deed path (defines single called) ∷ [])
+    (record { single = single; name = called })
+heading_told path true called free n =
+    tells first (m_takes refl (m_takes refl (m_takes (is_free called [] free 0) (m_mark m_given))))
+heading_told path false called free n = tells (later first) (m_takes (is_free called space free 0) (m_mark m_given))
 
 both_pass : (a b : Bool) → a ≡ true → b ≡ false → (a && not b) ≡ true
 both_pass true true h e = cc
@@ -232,16 +239,16 @@ parameters_more before (o ∷ params) h = reads first (takes (λ n. refl) (λ n.
     (takes (λ n. both_pass _ (has before o) (variable_passes o space h.0 n) h.1) (λ n. refl)
     (valued (append_assoc before (o ∷ []) params) (says (parameters_more (before ++ o ∷ []) params h.2)))))
 
-parameters_told : (l : ℕ) (m : Mark) (params : List Name) → FormedParameters [] params → Under (λ l. Unit {0}) l →
-    (n : ℕ) → Tells n (parameter_list l m) (parameters params ++ newline ∷ []) (deed_of m ∷ []) params
-parameters_told zero m params h u n = absurd u
-parameters_told (suc l) m [] h u n = tells first (m_takes refl (m_mark m_given))
-parameters_told (suc l) m (o ∷ params) h u n =
+parameters_told : (l : ℕ) (params : List Name) → FormedParameters [] params → Under (λ l. Unit {0}) l →
+    (n : ℕ) → Tells n (parameter_list l) (parameters params ++ newline ∷ []) [] params
+parameters_told zero params h u n = absurd u
+parameters_told (suc l) [] h u n = tells first (m_takes refl m_given)
+parameters_told (suc l) (o ∷ params) h u n =
     tells (later first) (m_takes refl
     (m_over (append_assoc (listed k.Name [] (o ∷ params)) (close_paren ∷ []) (newline ∷ []))
-    (m_mark (m_then (tells_of
+    (m_then (tells_of
     (reads first (takes (variable_passes o [] h.0) (λ i. refl) (says (parameters_more (o ∷ []) params h.2)))))
-    (m_takes refl (m_takes refl m_given))))))
+    (m_takes refl (m_takes refl m_given)))))
 
 -- A printed method is read as it is.
 pub method_read : (path : Path) (single : Bool) (t : Name) (params after : List Name) (ss : List Stmt) (l : ℕ) →
@@ -253,8 +260,8 @@ method_read path single t params after ss (suc l) e free f h = record {
   read = λ n indent.
       tells_over (pieces_of_definition (def.Method single t params ss) (def.outs-Method single t params ss) indent)
       (tells (in_body path (suc l) e (later (later first)))
-      (m_takes refl (m_then (heading_told single t free _)
+      (m_takes refl (m_then_plain (heading_told path single t free _)
       (m_over (sym (append_assoc (parameters params) (newline ∷ []) _))
-      (m_then_plain (parameters_told l (counts path (defines single t) _) params f h.0 _)
+      (m_then (parameters_told l params f h.0 _)
       (m_then (tells_of (h.1.read (deeper indent) [])) (m_takes refl m_given)))))));
 }

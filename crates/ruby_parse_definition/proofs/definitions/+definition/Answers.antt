@@ -4,62 +4,84 @@ use Rattle.ruby_parse_cursor.proofs.CodeLaws.{sees_code}
 use Rattle.ruby_grammar.specs.Signs.{is_line}
 use Rattle.ruby_grammar.specs.Rules.{some_defs}
 use Rattle.ruby_parse_definition.specs.Places.{body_view}
-use Rattle.ruby_parse_definition.proofs.Steps.{then, stop, finish, skip_falls}
+use Rattle.ruby_parse_definition.proofs.MarkedSteps.{then, stop, finish}
+use Rattle.ruby_parse_definition.proofs.Steps.{skip_falls}
 use Rattle.ruby_parse_definition.proofs.DefinitionLaws.{definitions_break, definitions_end, definition_and_line}
 use Rattle.ruby_parse_definition.proofs.DefinitionLaws.{definition_without_line, module_deep, class_deep, module_chosen}
 use Rattle.ruby_parse_definition.proofs.DefinitionLaws.{class_chosen, body_breaks, body_lacks_end, body_reads}
 use Rattle.ruby_parse_definition.proofs.DefinitionLaws.{module_breaks, module_reads, class_breaks, class_reads}
+use Rattle.ruby_parse_definition.proofs.CountLaws.{left_again, same_again}
 use Rattle.ruby_parse_definition.proofs.definitions.+definition.Goals as goal
+
+pub class-returns-in_err-path-clause-reads : goal.class-returns-in_err-path-clause-reads
+class-returns-in_err-path-clause-reads t c =
+    let p = err_from_is_err_and c.from_residual.result c.from_residual.ensures.1 in
+    rw (p.1, p.2) (c.in_err-path.ensures.reads c.args.levels)
+
+pub module-returns-in_err-path-clause-reads : goal.module-returns-in_err-path-clause-reads
+module-returns-in_err-path-clause-reads t c =
+    let p = err_from_is_err_and c.from_residual.result c.from_residual.ensures.1 in
+    rw (p.1, p.2) (c.in_err-path.ensures.reads c.args.levels)
 
 pub class-returns-in_err-body-clause-reads : goal.class-returns-in_err-body-clause-reads
 class-returns-in_err-body-clause-reads t c =
     let p = err_from_is_err_and c.from_residual-in_err-body.result c.from_residual-in_err-body.ensures.1 in
-    rw (p.1, p.2) (class_breaks c.args.place.levels c.args.place.path.now c.args.levels c.args.marks.now
-    c.class.new.marks c.args.reader.now c.class.new.reader c.in_ok-opened.opened c.in_ok-opened.parent
-    c.in_ok-opened.ensures.reads _ c.inside.new.marks c.inside.new.reader c.in_err-body.ensures.reads)
+    rw (p.1, p.2) (class_breaks c.args.levels c.args.marks.now c.class.new.marks c.args.reader.now
+    c.class.new.reader c.in_ok-path.path c.in_ok-path.ensures.inside c.in_ok-path.parent c.in_ok-path.ensures.reads _
+    c.inside.new.marks c.inside.new.reader c.in_err-body.ensures.reads)
 
 pub class-returns-clause-reads : goal.class-returns-clause-reads
 class-returns-clause-reads t c =
-    class_reads c.args.place.levels c.args.place.path.now c.args.levels c.args.marks.now c.class.new.marks
-    c.args.reader.now c.class.new.reader c.in_ok-opened.opened c.in_ok-opened.parent c.in_ok-opened.ensures.reads
-    c.in_ok-body.body c.inside.new.marks c.inside.new.reader c.in_ok-body.ensures.reads
+    rw c.close.ensures (class_reads c.args.levels c.args.marks.now c.class.new.marks c.args.reader.now
+    c.class.new.reader c.in_ok-path.path c.in_ok-path.ensures.inside c.in_ok-path.parent c.in_ok-path.ensures.reads
+    c.in_ok-body.body c.inside.new.marks c.inside.new.reader c.in_ok-body.ensures.reads)
+
+pub class-returns-clause-bodies : goal.class-returns-clause-bodies
+class-returns-clause-bodies t c =
+    rw c.close.ensures (left_again c.args.marks.now c.class.new.marks c.inside.new.marks c.in_ok-path.path
+    c.in_ok-path.ensures.inside c.in_ok-body.ensures.bodies)
 
 pub module-returns-in_err-body-clause-reads : goal.module-returns-in_err-body-clause-reads
 module-returns-in_err-body-clause-reads t c =
     let p = err_from_is_err_and c.from_residual-in_err-body.result c.from_residual-in_err-body.ensures.1 in
-    rw (p.1, p.2) (module_breaks c.args.place.levels c.args.place.path.now c.args.levels c.args.marks.now
-    c.module.new.marks c.args.reader.now c.module.new.reader c.in_ok-opened.opened c.in_ok-opened.ensures.reads _
+    rw (p.1, p.2) (module_breaks c.args.levels c.args.marks.now c.module.new.marks c.args.reader.now
+    c.module.new.reader c.in_ok-path.path c.in_ok-path.ensures.inside c.in_ok-path.ensures.reads _
     c.inside.new.marks c.inside.new.reader c.in_err-body.ensures.reads)
 
 pub module-returns-clause-reads : goal.module-returns-clause-reads
 module-returns-clause-reads t c =
-    module_reads c.args.place.levels c.args.place.path.now c.args.levels c.args.marks.now c.module.new.marks
-    c.args.reader.now c.module.new.reader c.in_ok-opened.opened c.in_ok-opened.ensures.reads c.in_ok-body.body
-    c.inside.new.marks c.inside.new.reader c.in_ok-body.ensures.reads
+    rw c.close.ensures (module_reads c.args.levels c.args.marks.now c.module.new.marks c.args.reader.now
+    c.module.new.reader c.in_ok-path.path c.in_ok-path.ensures.inside c.in_ok-path.ensures.reads c.in_ok-body.body
+    c.inside.new.marks c.inside.new.reader c.in_ok-body.ensures.reads)
+
+pub module-returns-clause-bodies : goal.module-returns-clause-bodies
+module-returns-clause-bodies t c =
+    rw c.close.ensures (left_again c.args.marks.now c.module.new.marks c.inside.new.marks c.in_ok-path.path
+    c.in_ok-path.ensures.inside c.in_ok-body.ensures.bodies)
 
 pub definition-returns-in_err-levels-clause-reads : goal.definition-returns-in_err-levels-clause-reads
 definition-returns-in_err-levels-clause-reads t c =
     let p = err_from_is_err_and c.from_residual.result c.from_residual.ensures.1 in
-    rw (p.1, p.2) (module_deep c.args.place.levels c.args.place.path.now c.args.marks.now c.args.marks.now
+    rw (p.1, p.2) (module_deep c.args.place.levels c.args.marks.now.here c.args.marks.now c.args.marks.now
     c.args.reader.now _ (sees_code c.args.reader.now 1 (sym c.code.ensures ∙ (cc))) c.in_err-levels.ensures.none
     c.in_err-levels.ensures.fault)
 
 pub definition-returns-in_err-levels-2-clause-reads : goal.definition-returns-in_err-levels-2-clause-reads
 definition-returns-in_err-levels-2-clause-reads t c =
     let p = err_from_is_err_and c.from_residual-in_err-levels-2.result c.from_residual-in_err-levels-2.ensures.1 in
-    rw (p.1, p.2) (class_deep c.args.place.levels c.args.place.path.now c.args.marks.now c.args.marks.now
+    rw (p.1, p.2) (class_deep c.args.place.levels c.args.marks.now.here c.args.marks.now c.args.marks.now
     c.args.reader.now _ (sees_code c.args.reader.now 2 (sym c.code.ensures ∙ (cc)))
     c.in_err-levels-2.ensures.none c.in_err-levels-2.ensures.fault)
 
 pub definition-returns-in_ok-levels-clause-reads : goal.definition-returns-in_ok-levels-clause-reads
 definition-returns-in_ok-levels-clause-reads t c =
-    module_chosen c.args.place.levels c.args.place.path.now c.args.marks.now c.module.new.marks c.args.reader.now
+    module_chosen c.args.place.levels c.args.marks.now.here c.args.marks.now c.module.new.marks c.args.reader.now
     c.in_ok-levels.levels c.module.result c.module.new.reader c.in_ok-levels.ensures.left
     (sees_code c.args.reader.now 1 (sym c.code.ensures ∙ (cc))) c.module.ensures.reads
 
 pub definition-returns-in_ok-levels-2-clause-reads : goal.definition-returns-in_ok-levels-2-clause-reads
 definition-returns-in_ok-levels-2-clause-reads t c =
-    class_chosen c.args.place.levels c.args.place.path.now c.args.marks.now c.class.new.marks c.args.reader.now
+    class_chosen c.args.place.levels c.args.marks.now.here c.args.marks.now c.class.new.marks c.args.reader.now
     c.in_ok-levels-2.levels c.class.result c.class.new.reader c.in_ok-levels-2.ensures.left
     (sees_code c.args.reader.now 2 (sym c.code.ensures ∙ (cc))) c.class.ensures.reads
 
@@ -67,7 +89,8 @@ pub definitions-returns-in_err-definition-clause-reads : goal.definitions-return
 definitions-returns-in_err-definition-clause-reads t c =
     let p = err_from_is_err_and c.from_residual.result c.from_residual.ensures.1 in
     rw (p.1, p.2) (stop _ _ _ _ _ _ _ _ c.lines.invariant.goes_on
-    (definitions_break (body_view c.args.place) c.lines.defs c.lines.marks c.lines.reader _
+    (definitions_break c.args.place.levels c.args.marks.now.here c.lines.defs c.lines.marks
+    c.lines.invariant.bodies.0 c.lines.reader _
     c.definition.new.marks c.definition.new.reader (sym c.begins.ensures ∙ c.lines-test.true)
     c.in_err-definition.ensures.reads))
 
@@ -75,16 +98,24 @@ pub definitions-returns-then-not-sees-clause-reads : goal.definitions-returns-th
 definitions-returns-then-not-sees-clause-reads t c =
     finish {s = some_defs} _ c.push.new.self _ c.definition.new.marks _ c.definition.new.reader
     (then c.lines.invariant.goes_on
-    (definition_without_line (body_view c.args.place) c.lines.defs c.lines.marks c.lines.reader _ c.push.new.self
+    (definition_without_line c.args.place.levels c.args.marks.now.here c.lines.defs c.lines.marks
+    c.lines.invariant.bodies.0 c.lines.reader _ c.push.new.self
     c.definition.new.marks c.definition.new.reader (sym c.begins.ensures ∙ c.lines-test.true)
     c.in_ok-definition.ensures.reads c.in_ok-push.ensures.ok (cc)))
+
+pub definitions-returns-then-not-sees-clause-bodies : goal.definitions-returns-then-not-sees-clause-bodies
+definitions-returns-then-not-sees-clause-bodies t c = same_again c.args.marks.now c.lines.marks
+    c.definition.new.marks c.lines.invariant.bodies c.in_ok-definition.ensures.bodies
 
 pub definitions-lines-preserved : goal.definitions-lines-preserved
 definitions-lines-preserved t c = record {
   goes_on = then c.lines.invariant.goes_on
-      (definition_and_line (body_view c.args.place) c.lines.defs c.lines.marks c.lines.reader _ c.push.new.self
+      (definition_and_line c.args.place.levels c.args.marks.now.here c.lines.defs c.lines.marks
+      c.lines.invariant.bodies.0 c.lines.reader _ c.push.new.self
       c.definition.new.marks c.definition.new.reader (sym c.begins.ensures ∙ c.lines-test.true)
       c.in_ok-definition.ensures.reads c.in_ok-push.ensures.ok c.skip.new.self (cc) c.skip.ensures);
+  bodies = same_again c.args.marks.now c.lines.marks c.definition.new.marks c.lines.invariant.bodies
+      c.in_ok-definition.ensures.bodies;
   shorter = let a : length c.skip.new.self < length c.definition.new.reader =
       skip_falls is_line c.definition.new.reader c.skip.new.self (cc) c.skip.ensures in
       omega (arith, a, c.in_ok-definition.ensures.shorter, c.lines.invariant.shorter);
@@ -93,24 +124,24 @@ definitions-lines-preserved t c = record {
 pub definitions-returns-clause-reads : goal.definitions-returns-clause-reads
 definitions-returns-clause-reads t c = finish {s = some_defs} _ c.lines.defs _ c.lines.marks _ c.lines.reader
     (then c.lines.invariant.goes_on
-    (definitions_end (body_view c.args.place) c.lines.defs c.lines.marks c.lines.reader (sym c.begins.ensures
-    ∙ c.lines-test.false)))
+    (definitions_end c.args.place.levels c.args.marks.now.here c.lines.defs c.lines.marks
+    c.lines.invariant.bodies.0 c.lines.reader (sym c.begins.ensures ∙ c.lines-test.false)))
 
 pub inside-returns-in_err-defs-clause-reads : goal.inside-returns-in_err-defs-clause-reads
 inside-returns-in_err-defs-clause-reads t c =
     let p = err_from_is_err_and c.from_residual.result c.from_residual.ensures.1 in
-    rw (p.1, p.2) (body_breaks (body_view c.args.place) c.args.marks.now c.args.reader.now _ c.definitions.new.marks
+    rw (p.1, p.2) (body_breaks (body_view c.args.place c.args.marks.now) c.args.marks.now c.args.reader.now _ c.definitions.new.marks
     c.definitions.new.reader c.in_err-defs.ensures.reads)
 
 pub inside-returns-in_err-take-clause-reads : goal.inside-returns-in_err-take-clause-reads
 inside-returns-in_err-take-clause-reads t c =
     let p = err_from_is_err_and c.from_residual-in_err-take.result c.from_residual-in_err-take.ensures.1 in
-    rw (p.1, p.2) (body_lacks_end (body_view c.args.place) c.args.marks.now c.args.reader.now c.in_ok-defs.defs
+    rw (p.1, p.2) (body_lacks_end (body_view c.args.place c.args.marks.now) c.args.marks.now c.args.reader.now c.in_ok-defs.defs
     c.definitions.new.marks c.definitions.new.reader c.in_ok-defs.ensures.reads _ c.take.new.self
     c.in_err-take.ensures.stays c.in_err-take.ensures.other c.in_err-take.ensures.fault)
 
 pub inside-returns-clause-reads : goal.inside-returns-clause-reads
 inside-returns-clause-reads t c =
-    body_reads (body_view c.args.place) c.args.marks.now c.args.reader.now c.in_ok-defs.defs c.definitions.new.marks
+    body_reads (body_view c.args.place c.args.marks.now) c.args.marks.now c.args.reader.now c.in_ok-defs.defs c.definitions.new.marks
     c.definitions.new.reader c.in_ok-defs.ensures.reads c.take.new.self c.in_ok-take.ensures.ok
     c.in_ok-take.ensures.passed

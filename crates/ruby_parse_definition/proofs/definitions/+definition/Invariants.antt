@@ -1,6 +1,7 @@
 use Rattle.std.proofs.Common.{◌≤◌, ◌+◌, ◌*◌, [], length}
 use Rattle.descent.specs.Grammar.{only}
 use Rattle.ruby_grammar.specs.Rules as rules
+use Rattle.ruby_parse_marks.specs.Views.{SameBodies}
 use Rattle.ruby_parse_definition.specs.Answers.{Leads}
 use Rattle.ruby_parse_definition.specs.Places.{body_view}
 use Rattle.ruby_parse_definition.proofs.definitions.+definition.Given as goal
@@ -22,8 +23,9 @@ decreases-class l = 4 * l.levels + 3
 
 abbrev pub invariant-definitions-lines : goal.invariant-definitions-lines
 invariant-definitions-lines l = record {
-  goes_on : Leads (only (rules.definitions (body_view l.place) [])) l.fn.marks l.fn.reader
-      (only (rules.definitions (body_view l.place) l.defs)) l.marks l.reader;
+  goes_on : Leads (only (rules.definitions (body_view l.place l.fn.marks) [])) l.fn.marks l.fn.reader
+      (only (rules.definitions (body_view l.place l.fn.marks) l.defs)) l.marks l.reader;
+  bodies : SameBodies l.fn.marks l.marks;
   shorter : length l.reader ≤ length l.fn.reader;
 }
 

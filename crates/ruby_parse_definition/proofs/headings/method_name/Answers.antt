@@ -1,14 +1,24 @@
 use Rattle.std.proofs.lemmas.Result.{err_from_is_err_and}
 use Rattle.ruby_parse_cursor.specs.Views.{word_view}
-use Rattle.ruby_parse_definition.proofs.HeadingLaws.{name_reads, name_lacks}
+use Rattle.ruby_parse_definition.proofs.HeadingLaws.{name_reads, name_clashes, name_lacks}
 use Rattle.ruby_parse_definition.proofs.headings.method_name.Goals as goal
 
 pub returns-in_err-word-clause-reads : goal.returns-in_err-word-clause-reads
 returns-in_err-word-clause-reads c =
     let p = err_from_is_err_and c.from_residual.result c.from_residual.ensures.1 in
-    rw (p.1, p.2) (name_lacks c.args.single _ c.args.reader.now c.taken.new.self c.in_err-word.ensures.stays
-    c.in_err-word.ensures.other c.in_err-word.ensures.fault)
+    rw (p.1, p.2) (name_lacks c.args.marks.now.here c.args.marks.now c.args.reader.now c.args.single _
+    c.args.marks.now c.taken.new.self c.in_err-word.ensures.stays c.in_err-word.ensures.other
+    c.in_err-word.ensures.fault)
+
+pub returns-in_err-add-clause-reads : goal.returns-in_err-add-clause-reads
+returns-in_err-add-clause-reads c =
+    let p = err_from_is_err_and c.from_residual-in_err-add.result c.from_residual-in_err-add.ensures.1 in
+    rw (p.1, p.2) (name_clashes c.args.marks.now.here c.args.marks.now c.args.reader.now c.args.single
+    (word_view c.in_ok-word.word) c.taken.new.self c.in_ok-word.ensures.ok c.in_ok-word.ensures.sign
+    c.in_ok-name.name.items c.in_ok-name.ensures.items _ c.add.new.self c.in_err-add.ensures.refused)
 
 pub returns-clause-reads : goal.returns-clause-reads
-returns-clause-reads c = name_reads c.args.single (word_view c.in_ok-word.word) c.in_ok-name.name c.args.reader.now
-    c.taken.new.self c.in_ok-word.ensures.ok c.in_ok-word.ensures.sign c.in_ok-name.ensures
+returns-clause-reads c = name_reads c.args.marks.now.here c.args.marks.now c.args.reader.now c.args.single
+    (word_view c.in_ok-word.word) c.taken.new.self c.in_ok-word.ensures.ok c.in_ok-word.ensures.sign
+    c.in_ok-name.name.items c.in_ok-name.ensures.items _ c.add.new.self tt c.in_ok-from_bytes.ensures
+    (c.in_ok-add.ensures.clear, c.in_ok-add.ensures.added)

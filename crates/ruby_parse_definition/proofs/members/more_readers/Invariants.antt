@@ -1,13 +1,15 @@
 use Rattle.std.proofs.Common.{◌≤◌, length}
 use Rattle.descent.specs.Grammar.{only}
 use Rattle.ruby_grammar.specs.Rules as rules
+use Rattle.ruby_parse_marks.specs.Views.{SameBodies}
 use Rattle.ruby_parse_definition.specs.Answers.{Leads}
 use Rattle.ruby_parse_definition.proofs.members.more_readers.Given as goal
 
 abbrev pub invariant-names : goal.invariant-names
 invariant-names l = record {
-  goes_on : Leads (only (rules.more_readers l.place.path.now l.fn.first)) l.fn.marks l.fn.reader
-      (only (rules.more_readers l.place.path.now l.names)) l.marks l.reader;
+  goes_on : Leads (only (rules.more_readers l.fn.marks.here l.fn.first)) l.fn.marks l.fn.reader
+      (only (rules.more_readers l.fn.marks.here l.names)) l.marks l.reader;
+  bodies : SameBodies l.fn.marks l.marks;
   shorter : length l.reader ≤ length l.fn.reader;
 }
 

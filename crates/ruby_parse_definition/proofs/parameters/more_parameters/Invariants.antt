@@ -2,13 +2,13 @@ use Rattle.std.proofs.Common.{◌≤◌, List, length}
 use Rattle.descent.specs.Grammar.{only}
 use Rattle.ruby_grammar.specs.Marks.{Mark}
 use Rattle.ruby_grammar.specs.Rules as rules
-use Rattle.ruby_parse_definition.specs.Answers.{Leads}
+use Rattle.ruby_parse_definition.specs.Answers.{LeadsQuietly}
 use Rattle.ruby_parse_definition.proofs.parameters.more_parameters.Given as goal
 
 abbrev pub invariant-names : goal.invariant-names
 invariant-names l = record {
   goes_on : (ms : List Mark) →
-      Leads (only (rules.more_parameters l.fn.first)) ms l.fn.reader (only (rules.more_parameters l.names)) ms l.reader;
+      LeadsQuietly (only (rules.more_parameters l.fn.first)) ms l.fn.reader (only (rules.more_parameters l.names)) ms l.reader;
   shorter : length l.reader ≤ length l.fn.reader;
 }
 

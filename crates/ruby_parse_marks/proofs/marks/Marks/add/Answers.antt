@@ -1,6 +1,6 @@
 use Rattle.std.proofs.Common.{true, subst, refl}
 use Rattle.ruby_parse_marks.specs.Deeds.{done_of, Does}
-use Rattle.ruby_parse_marks.proofs.NotedLaws.{sound_done, clear_is, clash_is, adds}
+use Rattle.ruby_parse_marks.proofs.NotedLaws.{sound_done, clear_is, clash_is, adds, same_places}
 use Rattle.ruby_parse_marks.proofs.marks.Marks.add.Goals as goal
 
 pub invariant_of-self-then-branch : goal.invariant_of-self-then-branch
@@ -32,3 +32,8 @@ returns-clause-refused c = (
       c.if-branch.false c.in_ok-done.ensures.ok),
   refl,
 )
+
+pub returns-then-branch-clause-bodies : goal.returns-then-branch-clause-bodies
+returns-then-branch-clause-bodies c = same_places c.self.inside.paths.entries c.self.inside.here
+    c.self.inside.around.items (done_of c.self.inside.deeds) c.self.invariant c.args.act (done_of c.done.new.deeds)
+    c.args.self.now c.self.view_is c.args.at
