@@ -1,13 +1,13 @@
 -- How large an application may be.
-use Rattle.std.specs.Prelude.{◌≡◌, ℕ, ◌<◌, ◌≤◌, ◌-◌, ◌^◌, List, ◌∷◌, ◌++◌, length, map, min, All, Bool, nat_lt}
+use Rattle.std.specs.Prelude.{◌≡◌, ℕ, ◌<◌, ◌≤◌, ◌-◌, ◌^◌, List, ◌∷◌, ◌++◌, length, map, min, max, All, Bool, nat_lt}
 use Rattle.std.specs.List.{sum}
 use Rattle.outside.specs.declared.files.FileEntry.{FileEntry}
 use Rattle.tree_report.specs.declared.limits.Limit.{Limit}
 use Rattle.tree_report.specs.declared.limits.Limit.TheVariants.{Files, Bytes, Path}
 
--- the bytes of all files together
+-- the bytes of all files together, as their stamps say; a file with more bytes than its stamp says counts those
 abbrev pub total_bytes : List FileEntry → ℕ
-total_bytes files = sum (map (λ f. length f.bytes) files)
+total_bytes files = sum (map (λ f. max f.stamp.length (length f.bytes)) files)
 
 -- 4,096 files, 4,194,304 bytes in all files together, 255 bytes in each path
 pub record IsWithinLimits (files : List FileEntry) : Type 0 where

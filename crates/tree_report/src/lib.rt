@@ -8,8 +8,6 @@ mod listing;
 mod refusal;
 
 pub use configuration::read_configuration;
-pub use limits::{
-    ExceededLimit, LONGEST_PATH, Limit, MOST_BYTES, MOST_FILES, exceeded_limit, is_within_limits,
-};
+pub use limits::{ExceededLimit, Limit, exceeded_limit, is_within_limits};
 pub use listing::{ListedSite, Place, print_listing};
 pub use refusal::Refusal;

@@ -3,16 +3,7 @@ ghost use Rattle.std.specs.List.{find};
 ghost use Rattle.std.specs.Option.{option_map};
 ghost use Rattle.tree_report.specs.Limits.{has_long_path, IsWithinLimits, IsExceeded, IsFirstLongPath, total_bytes};
 
-use outside::FileEntry;
-
-/// The most files of a snapshot.
-pub const MOST_FILES: usize = 4_096;
-
-/// The most bytes of all files of a snapshot together.
-pub const MOST_BYTES: u64 = 4_194_304;
-
-/// The most bytes of a path.
-pub const LONGEST_PATH: usize = 255;
+use outside::{FileEntry, LONGEST_PATH, MOST_BYTES, MOST_FILES};
 
 /// What an application may have too much of, in the order in which it is judged.
 #[derive(Clone, Copy, Debug, PartialEq, Eq)]
@@ -35,7 +26,7 @@ fn sum_of_bytes(files: &[FileEntry]) -> u64
 {
     let mut total = 0u64;
     'files: for file in files {
-        total = total.saturating_add(file.bytes.len() as u64);
+        total = total.saturating_add(file.stamp.length.max(file.bytes.len() as u64));
     }
     total
 }
