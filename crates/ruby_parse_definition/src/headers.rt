@@ -8,8 +8,8 @@ ghost use Rattle.ruby_parse_definition.specs.Parts.{GivesPath, GivesParent, Give
 
 use crate::counting::open;
 use crate::paths::{Written, path_as_written};
-use ruby_parse_cursor::signs::{LESS, LINE};
-use ruby_parse_cursor::{Fault, Reader};
+use ruby_parse_cursor::terminals::{LESS, LINE};
+use ruby_parse_cursor::{Cursor, Fault};
 use ruby_parse_marks::{Act, Marks};
 use ruby_parse_steps::constant;
 use ruby_types::{CPath, ConstRef};
@@ -21,26 +21,26 @@ fn opened_path(
     alloc: Global,
     act: Act,
     marks: &mut Marks,
-    reader: &mut Reader<'_>,
+    cursor: &mut Cursor<'_>,
 ) -> Result<Written, Fault>
-    ensures reads { GivesPath (act_view act) marks.old reader.old result marks.new reader.new }
+    ensures reads { GivesPath (act_view act) marks.old cursor.old result marks.new cursor.new }
     ensures inside { IfOk result (λ p. IsInside marks.old p.path marks.new) }
-    ensures shorter { length reader.new ≤ length reader.old }
+    ensures shorter { length cursor.new ≤ length cursor.old }
 {
-    let path = path_as_written(alloc, marks.is_top(), reader)?;
+    let path = path_as_written(alloc, marks.is_top(), cursor)?;
     open(marks, path.path.as_slice(), act, path.at)?;
     Ok(path)
 }
 
 /// `module`, its path and a Line.
-pub fn module(alloc: Global, marks: &mut Marks, reader: &mut Reader<'_>) -> Result<CPath, Fault>
-    ensures reads { GivesModule marks.old reader.old result marks.new reader.new }
+pub fn module(alloc: Global, marks: &mut Marks, cursor: &mut Cursor<'_>) -> Result<CPath, Fault>
+    ensures reads { GivesModule marks.old cursor.old result marks.new cursor.new }
     ensures inside { IfOk result (λ name. IsInside marks.old name marks.new) }
-    ensures shorter { length reader.new ≤ length reader.old }
+    ensures shorter { length cursor.new ≤ length cursor.old }
 {
-    reader.take(MODULE)?;
-    let path = opened_path(alloc, Act::OpensModule, marks, reader)?;
-    reader.take(LINE)?;
+    cursor.take(MODULE)?;
+    let path = opened_path(alloc, Act::OpensModule, marks, cursor)?;
+    cursor.take(LINE)?;
     Ok(path.path)
 }
 
@@ -49,16 +49,16 @@ fn some_parent(
     alloc: Global,
     at: u32,
     marks: &mut Marks,
-    reader: &mut Reader<'_>,
+    cursor: &mut Cursor<'_>,
 ) -> Result<ConstRef, Fault>
-    ensures reads { GivesParent marks.old.here at marks.old reader.old result marks.new reader.new }
+    ensures reads { GivesParent marks.old.here at marks.old cursor.old result marks.new cursor.new }
     ensures bodies { OnOk result (SameBodies marks.old marks.new) }
-    ensures shorter { length reader.new ≤ length reader.old }
+    ensures shorter { length cursor.new ≤ length cursor.old }
 {
-    reader.take(LESS)?;
-    let parent = constant(alloc, reader)?;
+    cursor.take(LESS)?;
+    let parent = constant(alloc, cursor)?;
     marks.add(Act::GivesParent, at)?;
-    reader.take(LINE)?;
+    cursor.take(LINE)?;
     Ok(parent)
 }
 
@@ -67,17 +67,17 @@ fn parent(
     alloc: Global,
     at: u32,
     marks: &mut Marks,
-    reader: &mut Reader<'_>,
+    cursor: &mut Cursor<'_>,
 ) -> Result<Option<ConstRef>, Fault>
-    ensures reads { GivesMarkedRule (rules.parent marks.old.here at) marks.old reader.old result marks.new
-        reader.new }
+    ensures reads { GivesMarkedRule (rules.parent marks.old.here at) marks.old cursor.old result marks.new
+        cursor.new }
     ensures bodies { OnOk result (SameBodies marks.old marks.new) }
-    ensures shorter { length reader.new ≤ length reader.old }
+    ensures shorter { length cursor.new ≤ length cursor.old }
 {
-    if reader.sees(LESS) {
-        Ok(Some(some_parent(alloc, at, marks, reader)?))
+    if cursor.sees(LESS) {
+        Ok(Some(some_parent(alloc, at, marks, cursor)?))
     } else {
-        reader.take(LINE)?;
+        cursor.take(LINE)?;
         Ok(None)
     }
 }
@@ -86,14 +86,14 @@ fn parent(
 pub fn class(
     alloc: Global,
     marks: &mut Marks,
-    reader: &mut Reader<'_>,
+    cursor: &mut Cursor<'_>,
 ) -> Result<(CPath, Option<ConstRef>), Fault>
-    ensures reads { GivesClass marks.old reader.old result marks.new reader.new }
+    ensures reads { GivesClass marks.old cursor.old result marks.new cursor.new }
     ensures inside { IfOk result (λ c. IsInside marks.old c.0 marks.new) }
-    ensures shorter { length reader.new ≤ length reader.old }
+    ensures shorter { length cursor.new ≤ length cursor.old }
 {
-    reader.take(CLASS)?;
-    let path = opened_path(alloc, Act::OpensClass, marks, reader)?;
-    let parent = parent(alloc, path.at, marks, reader)?;
+    cursor.take(CLASS)?;
+    let path = opened_path(alloc, Act::OpensClass, marks, cursor)?;
+    let parent = parent(alloc, path.at, marks, cursor)?;
     Ok((path.path, parent))
 }

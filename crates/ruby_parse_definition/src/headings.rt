@@ -7,8 +7,8 @@ ghost use Rattle.ruby_parse_marks.specs.Views.{SameBodies};
 ghost use Rattle.ruby_parse_definition.specs.Answers.{GivesMarked, GivesMarkedRule};
 ghost use Rattle.ruby_parse_definition.specs.Parts.{heading_as};
 
-use ruby_parse_cursor::signs::{DOT, NAME};
-use ruby_parse_cursor::{Fault, Reader};
+use ruby_parse_cursor::terminals::{DOT, NAME};
+use ruby_parse_cursor::{Cursor, Fault};
 use ruby_parse_marks::{Act, Marks};
 use ruby_types::Text;
 use ruby_words::SELF;
@@ -26,14 +26,14 @@ fn method_name(
     alloc: Global,
     single: bool,
     marks: &mut Marks,
-    reader: &mut Reader<'_>,
+    cursor: &mut Cursor<'_>,
 ) -> Result<Heading, Fault>
-    ensures reads { GivesMarked (spec.method_name marks.old.here single) marks.old reader.old (heading_as result)
-        marks.new reader.new }
+    ensures reads { GivesMarked (spec.method_name marks.old.here single) marks.old cursor.old (heading_as result)
+        marks.new cursor.new }
     ensures bodies { OnOk result (SameBodies marks.old marks.new) }
-    ensures shorter { length reader.new ≤ length reader.old }
+    ensures shorter { length cursor.new ≤ length cursor.old }
 {
-    let word = reader.taken(NAME)?;
+    let word = cursor.take_word(NAME)?;
     let name = Vec::from_slice(alloc, word.text)?;
     marks.add(Act::Defines { single, name }, word.at)?;
     Ok(Heading {
@@ -43,36 +43,32 @@ fn method_name(
 }
 
 /// `self`, `.` and a name.
-fn singleton(
-    alloc: Global,
-    marks: &mut Marks,
-    reader: &mut Reader<'_>,
-) -> Result<Heading, Fault>
-    ensures reads { GivesMarked (spec.singleton_heading marks.old.here) marks.old reader.old (heading_as result)
-        marks.new reader.new }
+fn singleton(alloc: Global, marks: &mut Marks, cursor: &mut Cursor<'_>) -> Result<Heading, Fault>
+    ensures reads { GivesMarked (spec.singleton_heading marks.old.here) marks.old cursor.old (heading_as result)
+        marks.new cursor.new }
     ensures bodies { OnOk result (SameBodies marks.old marks.new) }
-    ensures shorter { length reader.new ≤ length reader.old }
+    ensures shorter { length cursor.new ≤ length cursor.old }
 {
-    reader.take(SELF)?;
-    reader.take(DOT)?;
-    method_name(alloc, true, marks, reader)
+    cursor.take(SELF)?;
+    cursor.take(DOT)?;
+    method_name(alloc, true, marks, cursor)
 }
 
 /// A name, perhaps with `self.` before it.
 pub fn method_heading(
     alloc: Global,
     marks: &mut Marks,
-    reader: &mut Reader<'_>,
+    cursor: &mut Cursor<'_>,
 ) -> Result<Heading, Fault>
-    ensures reads { GivesMarkedRule (rules.heading marks.old.here) marks.old reader.old (heading_as result) marks.new
-        reader.new }
+    ensures reads { GivesMarkedRule (rules.heading marks.old.here) marks.old cursor.old (heading_as result) marks.new
+        cursor.new }
     ensures bodies { OnOk result (SameBodies marks.old marks.new) }
-    ensures shorter { length reader.new ≤ length reader.old }
+    ensures shorter { length cursor.new ≤ length cursor.old }
 {
-    if reader.sees(SELF) {
-        singleton(alloc, marks, reader)
-    } else if reader.sees(NAME) {
-        method_name(alloc, false, marks, reader)
+    if cursor.sees(SELF) {
+        singleton(alloc, marks, cursor)
+    } else if cursor.sees(NAME) {
+        method_name(alloc, false, marks, cursor)
     } else {
         Err(Fault::Unexpected)
     }

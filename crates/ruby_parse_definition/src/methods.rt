@@ -10,8 +10,8 @@ ghost use Rattle.ruby_parse_definition.specs.Parts.{heading_view, GivesSignature
 
 use crate::headings::{Heading, method_heading};
 use crate::parameters::{Parameters, all_parameters};
-use ruby_parse_cursor::signs::{CLOSE_PAREN, LINE, OPEN_PAREN};
-use ruby_parse_cursor::{Fault, Reader};
+use ruby_parse_cursor::terminals::{CLOSE_PAREN, LINE, OPEN_PAREN};
+use ruby_parse_cursor::{Cursor, Fault};
 use ruby_parse_marks::Marks;
 use ruby_parse_statement::{Body, statements};
 use ruby_parse_steps::opened;
@@ -27,14 +27,14 @@ pub struct Signature<'a> {
 }
 
 /// Parameters in parentheses, and a Line.
-fn enclosed<'a>(alloc: Global, reader: &mut Reader<'a>) -> Result<Parameters<'a>, Fault>
-    ensures reads { Gives (spec.parameters_from 0) reader.old result reader.new }
-    ensures shorter { length reader.new ≤ length reader.old }
+fn enclosed<'a>(alloc: Global, cursor: &mut Cursor<'a>) -> Result<Parameters<'a>, Fault>
+    ensures reads { Gives (spec.parameters_from 0) cursor.old result cursor.new }
+    ensures shorter { length cursor.new ≤ length cursor.old }
 {
-    reader.take(OPEN_PAREN)?;
-    let names = all_parameters(alloc, reader)?;
-    reader.take(CLOSE_PAREN)?;
-    reader.take(LINE)?;
+    cursor.take(OPEN_PAREN)?;
+    let names = all_parameters(alloc, cursor)?;
+    cursor.take(CLOSE_PAREN)?;
+    cursor.take(LINE)?;
     Ok(names)
 }
 
@@ -42,16 +42,16 @@ fn enclosed<'a>(alloc: Global, reader: &mut Reader<'a>) -> Result<Parameters<'a>
 fn parameter_list<'a>(
     alloc: Global,
     levels: u32,
-    reader: &mut Reader<'a>,
+    cursor: &mut Cursor<'a>,
 ) -> Result<Parameters<'a>, Fault>
-    ensures reads { GivesRule (rules.parameter_list levels) reader.old result reader.new }
-    ensures shorter { length reader.new ≤ length reader.old }
+    ensures reads { GivesRule (rules.parameter_list levels) cursor.old result cursor.new }
+    ensures shorter { length cursor.new ≤ length cursor.old }
 {
-    if reader.sees(OPEN_PAREN) {
+    if cursor.sees(OPEN_PAREN) {
         opened(levels)?;
-        enclosed(alloc, reader)
+        enclosed(alloc, cursor)
     } else {
-        reader.take(LINE)?;
+        cursor.take(LINE)?;
         Ok(Parameters::new(alloc))
     }
 }
@@ -61,15 +61,15 @@ fn method_signature<'a>(
     alloc: Global,
     levels: u32,
     marks: &mut Marks,
-    reader: &mut Reader<'a>,
+    cursor: &mut Cursor<'a>,
 ) -> Result<Signature<'a>, Fault>
-    ensures reads { GivesSignature levels marks.old reader.old result marks.new reader.new }
+    ensures reads { GivesSignature levels marks.old cursor.old result marks.new cursor.new }
     ensures bodies { OnOk result (SameBodies marks.old marks.new) }
-    ensures shorter { length reader.new ≤ length reader.old }
+    ensures shorter { length cursor.new ≤ length cursor.old }
 {
-    reader.take(DEF)?;
-    let heading = method_heading(alloc, marks, reader)?;
-    let parameters = parameter_list(alloc, levels, reader)?;
+    cursor.take(DEF)?;
+    let heading = method_heading(alloc, marks, cursor)?;
+    let parameters = parameter_list(alloc, levels, cursor)?;
     Ok(Signature {
         heading,
         parameters,
@@ -87,14 +87,14 @@ fn may_set(heading: &Heading) -> bool
 fn method_body<'a>(
     body: Body,
     parameters: Parameters<'a>,
-    reader: &mut Reader<'a>,
+    cursor: &mut Cursor<'a>,
 ) -> Result<Stmts, Fault>
-    ensures reads { GivesStatements (around_view body parameters.entry) reader.old result reader.new }
-    ensures shorter { length reader.new ≤ length reader.old }
+    ensures reads { GivesStatements (around_view body parameters.entry) cursor.old result cursor.new }
+    ensures shorter { length cursor.new ≤ length cursor.old }
 {
     let mut locals = parameters.into_locals(body.alloc)?;
-    let block = statements(body, &mut locals, reader)?;
-    reader.take(END)?;
+    let block = statements(body, &mut locals, cursor)?;
+    cursor.take(END)?;
     Ok(block.statements)
 }
 
@@ -103,13 +103,13 @@ pub fn method<'a>(
     alloc: Global,
     levels: u32,
     marks: &mut Marks,
-    reader: &mut Reader<'a>,
+    cursor: &mut Cursor<'a>,
 ) -> Result<Def, Fault>
-    ensures reads { GivesMethod levels marks.old reader.old result marks.new reader.new }
+    ensures reads { GivesMethod levels marks.old cursor.old result marks.new cursor.new }
     ensures bodies { OnOk result (SameBodies marks.old marks.new) }
-    ensures shorter { length reader.new ≤ length reader.old }
+    ensures shorter { length cursor.new ≤ length cursor.old }
 {
-    let signature = method_signature(alloc, levels, marks, reader)?;
+    let signature = method_signature(alloc, levels, marks, cursor)?;
     let Signature {
         heading,
         parameters,
@@ -120,7 +120,7 @@ pub fn method<'a>(
         levels,
         may_set: may_set(&heading),
     };
-    let body = method_body(inner, parameters, reader)?;
+    let body = method_body(inner, parameters, cursor)?;
     Ok(Def::Method {
         single: heading.single,
         name: heading.name,

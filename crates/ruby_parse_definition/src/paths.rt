@@ -3,8 +3,8 @@
 ghost use Rattle.std.specs.Prelude.{◌≤◌, length};
 ghost use Rattle.ruby_parse_definition.specs.Parts.{GivesWritten, GivesOpenedRest};
 
-use ruby_parse_cursor::signs::CONST;
-use ruby_parse_cursor::{Fault, Reader};
+use ruby_parse_cursor::terminals::CONST;
+use ruby_parse_cursor::{Cursor, Fault};
 use ruby_parse_steps::{longer, path_rest};
 use ruby_types::CPath;
 use std::alloc::Global;
@@ -21,25 +21,29 @@ fn allowed_rest(
     alloc: Global,
     may_go_on: bool,
     first: CPath,
-    reader: &mut Reader<'_>,
+    cursor: &mut Cursor<'_>,
 ) -> Result<CPath, Fault>
-    ensures reads { GivesOpenedRest may_go_on first reader.old result reader.new }
-    ensures shorter { length reader.new ≤ length reader.old }
+    ensures reads { GivesOpenedRest may_go_on first cursor.old result cursor.new }
+    ensures shorter { length cursor.new ≤ length cursor.old }
 {
     if may_go_on {
-        path_rest(alloc, first, reader)
+        path_rest(alloc, first, cursor)
     } else {
         Ok(first)
     }
 }
 
 /// A path, which is one name where the flag allows no more.
-pub fn path_as_written(alloc: Global, may_go_on: bool, reader: &mut Reader<'_>) -> Result<Written, Fault>
-    ensures reads { GivesWritten may_go_on reader.old result reader.new }
-    ensures shorter { length reader.new ≤ length reader.old }
+pub fn path_as_written(
+    alloc: Global,
+    may_go_on: bool,
+    cursor: &mut Cursor<'_>,
+) -> Result<Written, Fault>
+    ensures reads { GivesWritten may_go_on cursor.old result cursor.new }
+    ensures shorter { length cursor.new ≤ length cursor.old }
 {
-    let first = reader.taken(CONST)?;
+    let first = cursor.take_word(CONST)?;
     let path = longer(alloc, CPath::new(alloc), first.text)?;
-    let path = allowed_rest(alloc, may_go_on, path, reader)?;
+    let path = allowed_rest(alloc, may_go_on, path, cursor)?;
     Ok(Written { path, at: first.at })
 }

@@ -7,8 +7,8 @@ ghost use Rattle.ruby_grammar.specs.Rules as rules;
 ghost use Rattle.ruby_grammar.specs.Statements.{scope};
 ghost use Rattle.ruby_parse_steps.specs.Gives.{GivesRule};
 
-use ruby_parse_cursor::signs::CONST;
-use ruby_parse_cursor::{Fault, Locals, Reader};
+use ruby_parse_cursor::terminals::CONST;
+use ruby_parse_cursor::{Cursor, Fault, Locals};
 use ruby_parse_expression::expression;
 use ruby_parse_marks::Marks;
 use ruby_parse_steps::Scope;
@@ -24,31 +24,31 @@ pub struct Place {
 }
 
 /// Whether a definition that may stand anywhere is at hand.
-fn begins_top(reader: &Reader<'_>) -> bool
-    ensures { result ≡ next_is starts_top (head reader.now) }
+fn begins_top(cursor: &Cursor<'_>) -> bool
+    ensures { result ≡ next_is starts_top (head cursor.now) }
 {
-    reader.sees(CONST) || reader.sees(MODULE) || reader.sees(CLASS)
+    cursor.sees(CONST) || cursor.sees(MODULE) || cursor.sees(CLASS)
 }
 
 /// Whether a definition that stands only inside another one is at hand.
-fn begins_member(reader: &Reader<'_>) -> bool
-    ensures { result ≡ next_is starts_member (head reader.now) }
+fn begins_member(cursor: &Cursor<'_>) -> bool
+    ensures { result ≡ next_is starts_member (head cursor.now) }
 {
-    reader.sees(INCLUDE) || reader.sees(ATTR_READER) || reader.sees(DEF)
+    cursor.sees(INCLUDE) || cursor.sees(ATTR_READER) || cursor.sees(DEF)
 }
 
 /// Whether a definition is at hand that may stand in the module or class that is open.
-pub fn begins(marks: &Marks, reader: &Reader<'_>) -> bool
-    ensures { result ≡ next_is (starts_definition marks.now.here) (head reader.now) }
+pub fn begins(marks: &Marks, cursor: &Cursor<'_>) -> bool
+    ensures { result ≡ next_is (starts_definition marks.now.here) (head cursor.now) }
 {
-    begins_top(reader) || (!marks.is_top() && begins_member(reader))
+    begins_top(cursor) || (!marks.is_top() && begins_member(cursor))
 }
 
 impl Place {
     /// An expression here. No variable is known outside methods.
-    pub fn expression(self, reader: &mut Reader<'_>) -> Result<Expr, Fault>
-        ensures reads { GivesRule (rules.expression (scope self.levels [])) reader.old result reader.new }
-        ensures shorter { length reader.new ≤ length reader.old }
+    pub fn expression(self, cursor: &mut Cursor<'_>) -> Result<Expr, Fault>
+        ensures reads { GivesRule (rules.expression (scope self.levels [])) cursor.old result cursor.new }
+        ensures shorter { length cursor.new ≤ length cursor.old }
     {
         let locals = Locals::new(self.alloc);
         let scope = Scope {
@@ -56,6 +56,6 @@ impl Place {
             levels: self.levels,
             locals: &locals,
         };
-        expression(scope, reader)
+        expression(scope, cursor)
     }
 }

@@ -15,7 +15,7 @@ use load_rules::{FirstRefusal, first_reply};
 use outside::{FileEntry, Snapshot};
 use ruby_types::Reply;
 use std::alloc::{AllocError, Global};
-use tree_command::{TreeFault, list_tree};
+use tree_command::{ListingFault, list_tree};
 use tree_report::is_within_limits;
 
 /// What a command asks of the application's files.
@@ -137,14 +137,14 @@ fn answer_listing(alloc: Global, snapshot: &Snapshot) -> Result<Answer, AllocErr
             bytes,
             outcome: Outcome::Done,
         }),
-        Err(TreeFault::Refused(refusal)) => {
+        Err(ListingFault::Refused(refusal)) => {
             let bytes = refusal.line(alloc)?;
             Ok(Answer {
                 bytes,
                 outcome: Outcome::Refused,
             })
         }
-        Err(TreeFault::Memory) => Err(AllocError),
+        Err(ListingFault::Memory) => Err(AllocError),
     }
 }
 

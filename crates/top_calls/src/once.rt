@@ -10,7 +10,7 @@ ghost use Rattle.top_calls.specs.declared.outcome.Outcome.TheVariants.{FaultyWor
 use crate::answer::{Answer, Question, answer_to, not_built, question_of};
 use crate::outcome::Outcome;
 use crate::words::parse_words;
-use outside::{Sink, Source, Tree, TreeAns, Written, write_all};
+use outside::{Delivery, Sink, Source, Tree, TreeAns, write_all};
 use ruby_types::TextList;
 use std::alloc::{AllocError, Global};
 
@@ -26,8 +26,8 @@ fn write_answer<O: Sink>(answer: Result<Answer, AllocError>, out: &mut O) -> Out
         return Outcome::Memory;
     };
     match write_all(out, bytes.as_slice()) {
-        Written::Whole => outcome,
-        Written::Failed => Outcome::WriteFault,
+        Delivery::Whole => outcome,
+        Delivery::Failed => Outcome::WriteFault,
     }
 }
 

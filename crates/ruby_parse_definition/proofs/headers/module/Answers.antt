@@ -5,25 +5,25 @@ use Rattle.ruby_parse_definition.proofs.headers.module.Goals as goal
 pub returns-in_err-take-clause-reads : goal.returns-in_err-take-clause-reads
 returns-in_err-take-clause-reads c =
     let p = err_from_is_err_and c.from_residual.result c.from_residual.ensures.1 in
-    rw (p.1, p.2) (no_module c.args.marks.now c.args.reader.now _ c.args.marks.now c.take.new.self
+    rw (p.1, p.2) (no_module c.args.marks.now c.args.cursor.now _ c.args.marks.now c.take.new.self
     c.in_err-take.ensures.stays c.in_err-take.ensures.other c.in_err-take.ensures.fault)
 
 pub returns-in_err-path-clause-reads : goal.returns-in_err-path-clause-reads
 returns-in_err-path-clause-reads c =
     let p = err_from_is_err_and c.from_residual-in_err-path.result c.from_residual-in_err-path.ensures.1 in
-    rw (p.1, p.2) (module_lacks_path c.args.marks.now c.args.reader.now c.take.new.self c.in_ok-take.ensures.ok
-    c.in_ok-take.ensures.passed _ c.opened_path.new.marks c.opened_path.new.reader c.in_err-path.ensures.reads)
+    rw (p.1, p.2) (module_lacks_path c.args.marks.now c.args.cursor.now c.take.new.self c.in_ok-take.ensures.ok
+    c.in_ok-take.ensures.passed _ c.opened_path.new.marks c.opened_path.new.cursor c.in_err-path.ensures.reads)
 
 pub returns-in_err-take-2-clause-reads : goal.returns-in_err-take-2-clause-reads
 returns-in_err-take-2-clause-reads c =
     let p = err_from_is_err_and c.from_residual-in_err-take-2.result c.from_residual-in_err-take-2.ensures.1 in
-    rw (p.1, p.2) (module_lacks_line c.args.marks.now c.args.reader.now c.take.new.self c.in_ok-take.ensures.ok
-    c.in_ok-take.ensures.passed c.in_ok-path.path c.opened_path.new.marks c.opened_path.new.reader
+    rw (p.1, p.2) (module_lacks_line c.args.marks.now c.args.cursor.now c.take.new.self c.in_ok-take.ensures.ok
+    c.in_ok-take.ensures.passed c.in_ok-path.path c.opened_path.new.marks c.opened_path.new.cursor
     c.in_ok-path.ensures.reads _ c.opened_path.new.marks c.take-2.new.self c.in_err-take-2.ensures.stays
     c.in_err-take-2.ensures.other c.in_err-take-2.ensures.fault)
 
 pub returns-clause-reads : goal.returns-clause-reads
 returns-clause-reads c =
-    module_opens c.args.marks.now c.args.reader.now c.take.new.self c.in_ok-take.ensures.ok
-    c.in_ok-take.ensures.passed c.in_ok-path.path c.opened_path.new.marks c.opened_path.new.reader
+    module_opens c.args.marks.now c.args.cursor.now c.take.new.self c.in_ok-take.ensures.ok
+    c.in_ok-take.ensures.passed c.in_ok-path.path c.opened_path.new.marks c.opened_path.new.cursor
     c.in_ok-path.ensures.reads c.take-2.new.self c.in_ok-take-2.ensures.ok c.in_ok-take-2.ensures.passed

@@ -3,14 +3,14 @@ use Rattle.ruby_parse_definition.proofs.HeadingLaws.{heading_singleton, heading_
 use Rattle.ruby_parse_definition.proofs.headings.method_heading.Goals as goal
 
 pub returns-then-sees-clause-reads : goal.returns-then-sees-clause-reads
-returns-then-sees-clause-reads c = heading_singleton c.args.marks.now.here c.args.marks.now c.args.reader.now
-    c.singleton.new.reader c.singleton.new.marks (heading_as c.singleton.result) (cc) c.singleton.ensures.reads
+returns-then-sees-clause-reads c = heading_singleton c.args.marks.now.here c.args.marks.now c.args.cursor.now
+    c.singleton.new.cursor c.singleton.new.marks (heading_as c.singleton.result) (cc) c.singleton.ensures.reads
 
 pub returns-then-sees-2-clause-reads : goal.returns-then-sees-2-clause-reads
-returns-then-sees-2-clause-reads c = heading_plain c.args.marks.now.here c.args.marks.now c.args.reader.now
-    c.method_name.new.reader c.method_name.new.marks (heading_as c.method_name.result) (cc) (cc)
+returns-then-sees-2-clause-reads c = heading_plain c.args.marks.now.here c.args.marks.now c.args.cursor.now
+    c.method_name.new.cursor c.method_name.new.marks (heading_as c.method_name.result) (cc) (cc)
     c.method_name.ensures.reads
 
 pub returns-else-sees-2-clause-reads : goal.returns-else-sees-2-clause-reads
-returns-else-sees-2-clause-reads c = no_heading c.args.marks.now.here c.args.marks.now c.args.reader.now
+returns-else-sees-2-clause-reads c = no_heading c.args.marks.now.here c.args.marks.now c.args.cursor.now
     c.args.marks.now (cc) (cc)

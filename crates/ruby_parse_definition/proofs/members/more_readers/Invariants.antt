@@ -7,11 +7,11 @@ use Rattle.ruby_parse_definition.proofs.members.more_readers.Given as goal
 
 abbrev pub invariant-names : goal.invariant-names
 invariant-names l = record {
-  goes_on : Leads (only (rules.more_readers l.fn.marks.here l.fn.first)) l.fn.marks l.fn.reader
-      (only (rules.more_readers l.fn.marks.here l.names)) l.marks l.reader;
+  goes_on : Leads (only (rules.more_readers l.fn.marks.here l.fn.first)) l.fn.marks l.fn.cursor
+      (only (rules.more_readers l.fn.marks.here l.names)) l.marks l.cursor;
   bodies : SameBodies l.fn.marks l.marks;
-  shorter : length l.reader ≤ length l.fn.reader;
+  shorter : length l.cursor ≤ length l.fn.cursor;
 }
 
 abbrev pub decreases-names : goal.decreases-names
-decreases-names l = length l.reader
+decreases-names l = length l.cursor

@@ -5,21 +5,21 @@ use Rattle.ruby_parse_definition.proofs.methods.parameter_list.Goals as goal
 pub returns-in_err-opened-clause-reads : goal.returns-in_err-opened-clause-reads
 returns-in_err-opened-clause-reads c =
     let p = err_from_is_err_and c.from_residual.result c.from_residual.ensures.1 in
-    rw (p.1, p.2) (list_deep c.args.levels c.args.reader.now _ (cc) c.in_err-opened.ensures.none
+    rw (p.1, p.2) (list_deep c.args.levels c.args.cursor.now _ (cc) c.in_err-opened.ensures.none
     c.in_err-opened.ensures.fault)
 
 pub returns-in_ok-opened-clause-reads : goal.returns-in_ok-opened-clause-reads
 returns-in_ok-opened-clause-reads c =
-    list_enclosed c.args.levels c.args.reader.now c.in_ok-opened.field-0 c.enclosed.result c.enclosed.new.reader (cc)
+    list_enclosed c.args.levels c.args.cursor.now c.in_ok-opened.field-0 c.enclosed.result c.enclosed.new.cursor (cc)
     c.in_ok-opened.ensures.left c.enclosed.ensures.reads
 
 pub returns-in_err-take-clause-reads : goal.returns-in_err-take-clause-reads
 returns-in_err-take-clause-reads c =
     let p = err_from_is_err_and c.from_residual-in_err-take.result c.from_residual-in_err-take.ensures.1 in
-    rw (p.1, p.2) (list_fails c.args.levels c.args.reader.now _ c.take.new.self (cc) c.in_err-take.ensures.stays
+    rw (p.1, p.2) (list_fails c.args.levels c.args.cursor.now _ c.take.new.self (cc) c.in_err-take.ensures.stays
     c.in_err-take.ensures.other c.in_err-take.ensures.fault)
 
 pub returns-in_ok-take-clause-reads : goal.returns-in_ok-take-clause-reads
 returns-in_ok-take-clause-reads c =
-    list_empty c.args.levels c.args.reader.now c.take.new.self c.new.result c.in_ok-take.ensures.ok
+    list_empty c.args.levels c.args.cursor.now c.take.new.self c.new.result c.in_ok-take.ensures.ok
     c.in_ok-take.ensures.passed c.new.ensures
