@@ -1,7 +1,7 @@
 use Rattle.std.proofs.Common.{List, ℕ, sym, subst}
 use Rattle.tree_command.specs.Tree.{IsTreeFault}
-use Rattle.tree_command.specs.declared.fault.TreeFault.{TreeFault}
-use Rattle.tree_command.specs.declared.fault.TreeFault.TheVariants as fault
+use Rattle.tree_command.specs.declared.fault.ListingFault.{ListingFault}
+use Rattle.tree_command.specs.declared.fault.ListingFault.TheVariants as fault
 use Rattle.top_calls.specs.Output.{TreeAnswer, lists, refuses}
 use Rattle.top_calls.specs.declared.outcome.Outcome.TheVariants.{Refused}
 use Rattle.top_calls.proofs.answer.answer_listing.Goals as goal
@@ -11,7 +11,7 @@ returns-in-Ok c = lists c.in-Ok.bytes.items c.in-Ok.ensures.listing
 
 pub returns-in_ok-bytes-in-Err-Refused : goal.returns-in_ok-bytes-in-Err-Refused
 returns-in_ok-bytes-in-Err-Refused c =
-    let P : TreeFault → Type 0 = IsTreeFault c.args.snapshot.now.files in
+    let P : ListingFault → Type 0 = IsTreeFault c.args.snapshot.now.files in
     let refused : P (fault.Refused c.in-Err-Refused.refusal) =
     subst P c.in-Err-Refused.field-0-is c.in-Err-Refused.ensures.fault in
     let Q : List ℕ → Type 0 = λ bytes. TreeAnswer c.args.snapshot.now.files bytes Refused in
