@@ -91,8 +91,7 @@ fn run<R: Env + Files + Print + Eprint + AllocGlobal + Clone + Drop>(rt: &R) -> 
 }
 
 /// Runs the words on a thread with a large stack. Without room for one nothing is run: a file within the limits could
-/// end
-/// the program's own stack.
+/// end the program's own stack.
 fn main(rt: HostRuntime) -> ExitCode {
     let deep = thread::Builder::new().stack_size(STACK_BYTES);
     let status = match rt.clone() {

@@ -33,7 +33,7 @@ fn tell_unbuilt<R: Eprint>(rt: &R, words: &TextList, what: &Unbuilt) -> io::Resu
         Unbuilt::Size => eprintln!(rt;
             "devserver: not built yet: an application beyond a limit, which `devserver tree` tells"
         ),
-        Unbuilt::File(path) => if path.as_bytes() == b"config/loader.conf".as_slice() {
+        Unbuilt::File(path) => if path.as_bytes() == CONFIGURATION_PATH.as_bytes() {
             eprintln!(rt; "devserver: not built yet: the configuration config/loader.conf")
         } else {
             eprintln!(rt;
@@ -62,12 +62,17 @@ pub fn tell_folder<R: Files + Eprint>(rt: &R) -> io::Result<()> {
     }
 }
 
-/// Tells that the files could not be read.
+/// Tells that the files could not be read, with the path and the system's reason.
 fn tell_unread<R: Files + Eprint + AllocGlobal + Clone + Drop>(
     rt: &R,
-    _tree: &FolderTree<R>,
+    tree: &FolderTree<R>,
 ) -> io::Result<()> {
-    eprintln!(rt; "devserver: the application's files could not be read")
+    match tree.last_fault() {
+        Some(fault) => {
+            eprintln!(rt; "devserver: the application's files could not be read: {fault}")
+        }
+        None => eprintln!(rt; "devserver: the application's files could not be read"),
+    }
 }
 
 /// Tells how a command ended, where its output doesn't.
@@ -90,6 +95,7 @@ pub fn tell<R: Files + Eprint + AllocGlobal + Clone + Drop>(
     }
 }
 
+/// Tells that the command line has no command of this program.
 pub fn tell_faulty_words<R: Eprint>(rt: &R) -> io::Result<()> {
     eprintln!(rt;
         "devserver: faulty command line; usage: devserver get TARGET, devserver tree (see devserver --help)"
