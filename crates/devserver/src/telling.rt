@@ -1,5 +1,6 @@
 //! What the program tells on standard error.
 
+use outside::CONFIGURATION_PATH;
 use outside_real::FolderTree;
 use ruby_types::{Text, TextList};
 use std::rt::Files;
