@@ -21,11 +21,7 @@ use ruby_words::{CLASS, END, MODULE};
 
 /// Definitions, each with its Line, which the last may lack.
 #[cycle(definition)]
-pub fn definitions(
-    place: Place,
-    marks: &mut Marks,
-    reader: &mut Reader<'_>,
-) -> Result<Defs, Fault>
+pub fn definitions(place: Place, marks: &mut Marks, reader: &mut Reader<'_>) -> Result<Defs, Fault>
     ensures reads { GivesMarkedRule (rules.definitions (body_view place marks.old) []) marks.old reader.old result
         marks.new reader.new }
     ensures bodies { OnOk result (SameBodies marks.old marks.new) }

@@ -43,11 +43,7 @@ fn method_name(
 }
 
 /// `self`, `.` and a name.
-fn singleton(
-    alloc: Global,
-    marks: &mut Marks,
-    reader: &mut Reader<'_>,
-) -> Result<Heading, Fault>
+fn singleton(alloc: Global, marks: &mut Marks, reader: &mut Reader<'_>) -> Result<Heading, Fault>
     ensures reads { GivesMarked (spec.singleton_heading marks.old.here) marks.old reader.old (heading_as result)
         marks.new reader.new }
     ensures bodies { OnOk result (SameBodies marks.old marks.new) }

@@ -34,7 +34,11 @@ fn allowed_rest(
 }
 
 /// A path, which is one name where the flag allows no more.
-pub fn path_as_written(alloc: Global, may_go_on: bool, reader: &mut Reader<'_>) -> Result<Written, Fault>
+pub fn path_as_written(
+    alloc: Global,
+    may_go_on: bool,
+    reader: &mut Reader<'_>,
+) -> Result<Written, Fault>
     ensures reads { GivesWritten may_go_on reader.old result reader.new }
     ensures shorter { length reader.new ≤ length reader.old }
 {

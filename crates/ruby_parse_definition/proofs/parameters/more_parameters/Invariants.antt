@@ -8,7 +8,8 @@ use Rattle.ruby_parse_definition.proofs.parameters.more_parameters.Given as goal
 abbrev pub invariant-names : goal.invariant-names
 invariant-names l = record {
   goes_on : (ms : List Mark) →
-      LeadsQuietly (only (rules.more_parameters l.fn.first)) ms l.fn.reader (only (rules.more_parameters l.names)) ms l.reader;
+      LeadsQuietly (only (rules.more_parameters l.fn.first)) ms l.fn.reader (only (rules.more_parameters l.names)) ms
+      l.reader;
   shorter : length l.reader ≤ length l.fn.reader;
 }
 
