@@ -2,12 +2,13 @@
 use Rattle.std.proofs.Common.{◌≡◌, ℕ, false, true, List, [], ◌∷◌, ◌++◌, refl, ap, ◌∙◌, subst, Result, Ok, Err}
 use Rattle.std.specs.Prelude.{OnOk, IfErr}
 use Rattle.std.specs.List.{list_any}
-use Rattle.ruby_grammar.specs.Marks.{Mark, Act, clash}
+use Rattle.ruby_grammar.specs.Marks.{Mark, Act}
 use Rattle.ruby_grammar.specs.Rules.{Path}
 use Rattle.ruby_grammar.specs.Definitions.{counts}
 use Rattle.ruby_parse_cursor.specs.declared.fault.Fault.{Fault}
 use Rattle.ruby_parse_cursor.specs.declared.fault.Fault.TheVariants as f
-use Rattle.ruby_parse_marks.specs.Views.{Noted, Tells, SameBodies, Adds, Refused, clashes, clashes_with, inside, outside}
+use Rattle.ruby_parse_marks.specs.Views.{Noted, Tells, SameBodies, Adds, Refused, clashes, clashes_with, inside}
+use Rattle.ruby_parse_marks.specs.Views.{outside}
 use Rattle.ruby_parse_marks.specs.Views.{outside_of}
 use Rattle.ruby_parse_definition.specs.Answers.{Counted, IsInside}
 

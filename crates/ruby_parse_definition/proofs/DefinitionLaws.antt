@@ -1,5 +1,6 @@
 -- How definitions and whole files are read.
-use Rattle.std.proofs.Common.{◌≡◌, ℕ, suc, Bool, true, false, List, [], ◌∷◌, ◌++◌, drop, refl, sym, ap, ◌∙◌, subst, Option}
+use Rattle.std.proofs.Common.{◌≡◌, ℕ, suc, Bool, true, false, List, [], ◌∷◌, ◌++◌, drop, refl, sym, ap, ◌∙◌, subst}
+use Rattle.std.proofs.Common.{Option}
 use Rattle.std.proofs.Common.{Result, Ok, Err}
 use Rattle.std.proofs.lemmas.Bool.{cond-true, cond-false}
 use Rattle.descent.specs.Grammar.{Prod, give, token, call, only}
@@ -9,7 +10,6 @@ use Rattle.ruby_types.specs.declared.tree.Def.{Def}
 use Rattle.ruby_types.specs.declared.tree.Def.TheVariants as def
 use Rattle.ruby_types.specs.declared.tree.FileTree.{FileTree}
 use Rattle.ruby_grammar.specs.Words.{Word}
-use Rattle.ruby_grammar.specs.Marks.{Mark}
 use Rattle.ruby_grammar.specs.Signs.{is_module, is_class, is_end, is_line}
 use Rattle.ruby_grammar.specs.Rules.{ruby, Path, Body, a_tree, a_def, some_defs, file, definitions, more_definitions}
 use Rattle.ruby_grammar.specs.Rules.{definition}
@@ -220,14 +220,16 @@ led_file : (ws mid rest : List Word) (r : Result FileTree Fault) →
     LeadsQuietly {s = a_tree} (only (file most_levels false)) [] ws (file_from most_levels false) [] mid →
     GivesFileFrom mid r rest → GivesFile ws r rest
 led_file ws mid rest (Ok tree) a g = (g.0, a (done tree g.0 rest) g.1)
-led_file ws mid rest (Err e) a g = quiet.stop {s = a_tree} (only (file most_levels false)) (file_from most_levels false) []
+led_file ws mid rest (Err e) a g = quiet.stop {s = a_tree} (only (file most_levels false))
+    (file_from most_levels false) []
     [] ws mid rest e a g
 
 module _ (ws rest : List Word) (r : Result FileTree Fault) where
   pub line_and_file : (mid : List Word) → next_is is_line (head ws) ≡ true → mid ≡ drop 1 ws →
       GivesFileFrom mid r rest → GivesFile ws r rest
   line_and_file mid t d g = led_file ws mid rest r
-      (quiet.then (quiet.picked {s = a_tree} (file most_levels false) (token is_line λ _. file_from most_levels false) [] ws
+      (quiet.then (quiet.picked {s = a_tree} (file most_levels false)
+      (token is_line λ _. file_from most_levels false) [] ws
       (cond-true _ _ _ t)) (quiet.skip {s = a_tree} is_line (file_from most_levels false) [] ws mid t d)) g
 
   pub file_alone : next_is is_line (head ws) ≡ false → GivesFileFrom ws r rest → GivesFile ws r rest

@@ -1,14 +1,14 @@
 -- How what stands before the definitions in a module or class is read.
-use Rattle.std.proofs.Common.{◌≡◌, ℕ, Bool, true, false, List, [], ◌∷◌, ◌++◌, drop, sym, ◌∙◌, subst, Option, Some, None}
-use Rattle.std.proofs.Common.{Result, Ok, Err}
+use Rattle.std.proofs.Common.{◌≡◌, ℕ, Bool, true, false, List, ◌++◌, drop, sym, ◌∙◌, subst, Option, Some, None}
+use Rattle.std.proofs.Common.{Ok, Err}
 use Rattle.std.proofs.lemmas.Bool.{cond-true, cond-false}
 use Rattle.descent.specs.Grammar.{Prod, give, token, call, mark, only}
-use Rattle.descent.specs.Reading.{head, done, by_give}
+use Rattle.descent.specs.Reading.{head}
 use Rattle.ruby_types.specs.declared.tree.ConstRef.{ConstRef}
 use Rattle.ruby_types.specs.declared.tree.Def.TheVariants as def
 use Rattle.ruby_grammar.specs.Words.{Word}
 use Rattle.ruby_grammar.specs.Marks.{Mark, Act, opens_module, opens_class, gives_parent}
-use Rattle.ruby_grammar.specs.Signs.{is_const, is_module, is_class, is_line, is_less}
+use Rattle.ruby_grammar.specs.Signs.{is_module, is_class, is_line, is_less}
 use Rattle.ruby_grammar.specs.Rules.{ruby, Path, Sort, a_def, a_parent, a_constant, parent, constant}
 use Rattle.ruby_grammar.specs.Definitions as spec
 use Rattle.ruby_grammar.specs.Definitions.{body, counts, at_top, module_from, class_from}
@@ -100,7 +100,8 @@ module _ (v : Noted) (ws : List Word) where
   module _ (mid : List Word) (t : next_is is_class (head ws) ≡ true) (d : mid ≡ drop 1 ws) where
     to_class_path : (levels : ℕ) → Leads (class_from (body 0 false v.here) levels) v ws
         (path_then (body 0 false v.here) opens_class (class_behind levels)) v mid
-    to_class_path levels = skip is_class (path_then (body 0 false v.here) opens_class (class_behind levels)) v ws mid t d
+    to_class_path levels = skip is_class (path_then (body 0 false v.here) opens_class (class_behind levels)) v ws mid
+        t d
 
     pub class_lacks_path : (e : Fault) (w : Noted) (rest : List Word) →
         GivesPath opens_class v mid (Err e) w rest → GivesClass v ws (Err e) w rest

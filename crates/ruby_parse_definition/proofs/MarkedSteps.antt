@@ -1,18 +1,17 @@
 -- Steps of the reading of definitions, with what is noted.
-use Rattle.std.proofs.Common.{◌≡◌, Bool, true, false, ◌||◌, List, [], ◌∷◌, drop, sym, ap, ◌∙◌, subst, Result, Ok, Err}
+use Rattle.std.proofs.Common.{◌≡◌, Bool, true, false, ◌||◌, List, ◌∷◌, drop, sym, ap, ◌∙◌, Result, Ok, Err}
 use Rattle.descent.specs.Grammar.{Prod, give, token, call, mark, only}
-use Rattle.descent.specs.Reading.{Outcome, take, too_deep, nothing, head, choose, done, fault, Unexpected, Deep, Barred}
-use Rattle.descent.specs.Reading.{Twice, by_give, by_mark, by_clash}
+use Rattle.descent.specs.Reading.{take, too_deep, nothing, head, choose, done}
+use Rattle.descent.specs.Reading.{by_give, by_mark, by_clash}
 use Rattle.ruby_grammar.specs.Words.{Word}
-use Rattle.ruby_grammar.specs.Marks.{Mark, clash, clashes_any}
+use Rattle.ruby_grammar.specs.Marks.{Mark, clash}
 use Rattle.ruby_grammar.specs.Rules.{ruby, Sort, Val, Rule}
 use Rattle.ruby_grammar.specs.Choices.{ruby_choices, next_is}
 use Rattle.ruby_parse_cursor.specs.declared.fault.Fault.{Fault}
 use Rattle.ruby_parse_cursor.specs.declared.fault.Fault.TheVariants as f
-use Rattle.ruby_parse_steps.specs.Gives.{Comes, Stops, GivesRule}
+use Rattle.ruby_parse_steps.specs.Gives.{GivesRule}
 use Rattle.ruby_parse_steps.proofs.Descent.{called, stops_call}
 use Rattle.ruby_parse_marks.specs.Views.{Noted, Tells, Adds, Refused}
-use Rattle.ruby_parse_marks.specs.Views.{clashes as clashes_in}
 use Rattle.ruby_parse_definition.specs.Answers.{StopsAt, GivesMarked, GivesMarkedRule, LeadsQuietly, Leads, Counted}
 use Rattle.ruby_parse_definition.proofs.Steps as quiet
 

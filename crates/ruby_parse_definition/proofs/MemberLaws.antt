@@ -25,7 +25,8 @@ use Rattle.ruby_parse_steps.specs.Gives.{GivesRule, GivesConstant}
 use Rattle.ruby_parse_marks.specs.Views.{Noted}
 use Rattle.ruby_parse_definition.specs.Answers.{StopsAt, GivesMarked, GivesMarkedRule, Leads, Counted}
 use Rattle.ruby_parse_definition.specs.Parts.{reader_then, GivesReader}
-use Rattle.ruby_parse_definition.proofs.MarkedSteps.{word, skip, picked, after, quietly, counted, then, finish, stop, lacks}
+use Rattle.ruby_parse_definition.proofs.MarkedSteps.{word, skip, picked, after, quietly, counted, then, finish, stop}
+use Rattle.ruby_parse_definition.proofs.MarkedSteps.{lacks}
 use Rattle.ruby_parse_definition.proofs.MarkedSteps.{none, deep, breaks, breaks_quietly, clashes, led_marked}
 
 -- ---- an assigned constant

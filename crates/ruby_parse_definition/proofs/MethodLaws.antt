@@ -2,7 +2,7 @@
 use Rattle.std.proofs.Common.{◌≡◌, ℕ, suc, Bool, true, false, List, [], drop, refl, sym, ap, ◌∙◌, subst, Result, Ok}
 use Rattle.std.proofs.Common.{Err}
 use Rattle.std.proofs.lemmas.Bool.{cond-true, cond-false}
-use Rattle.descent.specs.Grammar.{Prod, give, token, call, mark, only}
+use Rattle.descent.specs.Grammar.{Prod, give, token, call, only}
 use Rattle.descent.specs.Reading.{head, choose}
 use Rattle.ruby_types.specs.declared.tree.Def.{Def}
 use Rattle.ruby_types.specs.declared.tree.Def.TheVariants as def
@@ -10,7 +10,7 @@ use Rattle.ruby_types.specs.declared.tree.Stmt.{Stmt}
 use Rattle.ruby_grammar.specs.Words.{Word}
 use Rattle.ruby_grammar.specs.Marks.{Mark}
 use Rattle.ruby_grammar.specs.Signs.{is_def, is_end, is_line, is_open_paren, is_close_paren}
-use Rattle.ruby_grammar.specs.Rules.{ruby, Name, Path, Body, Heading, a_def, a_block, a_heading, some_names, heading}
+use Rattle.ruby_grammar.specs.Rules.{ruby, Name, Heading, a_def, a_block, a_heading, some_names, heading}
 use Rattle.ruby_grammar.specs.Rules.{parameters, parameter_list, statements}
 use Rattle.ruby_grammar.specs.Statements.{block, around}
 use Rattle.ruby_grammar.specs.Definitions.{body, may_set, method_from, no_parameters, parameters_from}
@@ -181,7 +181,8 @@ module _ (levels : ℕ) (sets : Bool) (names known : List Name) (z : known ≡ n
   module _ (b : Held) (behind : List Name) (mid : List Word)
       (g : GivesRule {s = a_block} (statements (around levels sets known) []) ws (block_as behind (Ok b)) mid) where
     to_last : (made : List Stmt → Def) (ms : List Mark) →
-        LeadsQuietly {s = a_def} (statements_then (around levels sets names) made) ms ws (end_then made b.statements) ms mid
+        LeadsQuietly {s = a_def} (statements_then (around levels sets names) made) ms ws
+        (end_then made b.statements) ms mid
     to_last made ms = quiet.quietly {s = a_def} {v = a_block} (statements (around levels sets names) [])
         (λ c. end_then made c.stmts) (block b.statements behind b.closed) ms ws mid (statements_of (Ok b) behind mid g)
 

@@ -51,7 +51,8 @@ module _ (names : List Name) where
   next_name w = only (more_parameters (names ++ w.text ∷ []))
 
   module _ (ms : List Mark) (ws mid : List Word) (p : next_is is_comma (head ws) ≡ true) (d : mid ≡ drop 1 ws) where
-    to_name : LeadsQuietly {s = some_names} (only (more_parameters names)) ms ws (token (is_new_parameter names) next_name)
+    to_name : LeadsQuietly {s = some_names} (only (more_parameters names)) ms ws
+        (token (is_new_parameter names) next_name)
         ms mid
     to_name = then (picked {s = some_names} (more_parameters names) (parameter_more names) ms ws (cond-true _ _ _ p))
         (skip {s = some_names} is_comma (token (is_new_parameter names) next_name) ms ws mid p d)

@@ -1,24 +1,25 @@
 -- How paths of modules and classes are read.
-use Rattle.std.proofs.Common.{◌≡◌, ℕ, Bool, true, false, List, [], ◌∷◌, ◌++◌, refl, sym, ap, ◌∙◌, subst, Option, Some}
-use Rattle.std.proofs.Common.{None, Result, Ok, Err, drop}
+use Rattle.std.proofs.Common.{◌≡◌, ℕ, Bool, true, false, List, [], ◌∷◌, ◌++◌, refl, sym, subst}
+use Rattle.std.proofs.Common.{None, Result, Ok, Err}
 use Rattle.std.proofs.lemmas.Bool.{cond-true, cond-false}
-use Rattle.descent.specs.Grammar.{Prod, give, token, call, mark, only}
-use Rattle.descent.specs.Reading.{Outcome, Choice, take, head, choose, done, fault, Why, Unexpected, Deep, Barred, Twice}
+use Rattle.descent.specs.Grammar.{Prod, give, token, call, only}
+use Rattle.descent.specs.Reading.{Outcome, take, head, choose, done, fault, Unexpected, Deep, Barred}
+use Rattle.descent.specs.Reading.{Twice}
 use Rattle.descent.specs.Reading.{by_give, by_word, by_other, by_end, by_mark, by_clash, by_call, by_fault, by_depth}
 use Rattle.descent.specs.Reading.{by_bar, by_nothing}
 use Rattle.descent.proofs.Laws.{take_is}
 use Rattle.ruby_grammar.specs.Words.{Word}
 use Rattle.ruby_grammar.specs.Marks.{Mark, Act}
 use Rattle.ruby_grammar.specs.Signs.{is_path, is_const}
-use Rattle.ruby_grammar.specs.Rules.{ruby, Name, Path, Body, PathOpening, Sort, Rule, some_names, path_rest, opened_path}
+use Rattle.ruby_grammar.specs.Rules.{ruby, Path, PathOpening, Sort, Rule, some_names, path_rest}
+use Rattle.ruby_grammar.specs.Rules.{opened_path}
 use Rattle.ruby_grammar.specs.Expressions.{path_more}
-use Rattle.ruby_grammar.specs.Definitions.{body, counts, at_top, opened_from, opened_path_more, opened_path_end}
+use Rattle.ruby_grammar.specs.Definitions.{body, at_top, opened_from, opened_path_more, opened_path_end}
 use Rattle.ruby_grammar.specs.Choices.{ruby_choices, next_is}
 use Rattle.ruby_parse_cursor.specs.declared.fault.Fault.{Fault}
 use Rattle.ruby_parse_cursor.specs.declared.fault.Fault.TheVariants as f
 use Rattle.ruby_parse_steps.specs.Gives.{Comes, Stops, GivesPathRest}
 use Rattle.ruby_parse_steps.proofs.Descent.{chosen, called, called_fails, stops_call, stops_word, token_fails}
-use Rattle.ruby_parse_definition.specs.declared.paths.Written.{Written}
 use Rattle.ruby_parse_definition.specs.Parts.{GivesOpenedRest, GivesWritten, path_then, marked_then}
 
 -- ---- what was read, the other way round
@@ -156,7 +157,8 @@ module _ (may_go_on : Bool) where
             Comes (opened_path_end (how_of outer act w) path) ms rest o →
             Comes (only (opened_from (body 0 false outer) act w)) ms mid o
         in_rule outer act ms o t h =
-            subst (λ b. Comes {s = some_names} (only (opened_path b (how_of outer act w) (w.text ∷ []))) ms mid o) (sym t)
+            subst (λ b. Comes {s = some_names} (only (opened_path b (how_of outer act w) (w.text ∷ []))) ms mid o)
+            (sym t)
             (subst (λ l. Comes {s = some_names} (only (opened_path may_go_on (how_of outer act w) l)) ms mid o) n
             (g (how_of outer act w) ms o h))
 
@@ -165,10 +167,12 @@ module _ (may_go_on : Bool) where
             Comes (marked_then outer act next (record { path = path; at = w.at })) ms rest o →
             Comes (call (opened_from (body 0 false outer) act w) λ path. next path w.at) ms mid o
         behind outer act s next ms o t (by_mark c a) =
-            called {v = some_names} (opened_from (body 0 false outer) act w) (λ path. next path w.at) ms _ mid rest path o
+            called {v = some_names} (opened_from (body 0 false outer) act w) (λ path. next path w.at) ms _ mid rest
+            path o
             (in_rule outer act ms (done path _ rest) t (by_mark c by_give)) a
         behind outer act s next ms o t (by_clash c) =
-            called_fails {v = some_names} (opened_from (body 0 false outer) act w) (λ path. next path w.at) ms mid rest _
+            called_fails {v = some_names} (opened_from (body 0 false outer) act w)
+            (λ path. next path w.at) ms mid rest _
             (in_rule outer act ms (fault (Twice _) rest) t (by_clash c))
 
     pub path_breaks : (e : Fault) (rest : List Word) → GivesOpenedRest may_go_on first mid (Err e) rest →
@@ -177,7 +181,8 @@ module _ (may_go_on : Bool) where
         subst (λ l. Stops (path_then (body 0 false outer) act next) ms l d rest) (sym e)
         (stops_word is_const _ ms w mid rest d k
         (stops_call {v = some_names} (opened_from (body 0 false outer) act w) (λ path. next path w.at) ms mid rest d
-        (subst (λ b. Stops {s = some_names} (only (opened_path b (how_of outer act w) (w.text ∷ []))) ms mid d rest) (sym t)
+        (subst (λ b. Stops {s = some_names} (only (opened_path b (how_of outer act w) (w.text ∷ []))) ms mid d rest)
+        (sym t)
         (subst (λ l. Stops {s = some_names} (only (opened_path may_go_on (how_of outer act w) l)) ms mid d rest) n
         (g (how_of outer act w) ms)))))
 

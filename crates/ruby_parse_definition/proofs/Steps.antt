@@ -3,9 +3,9 @@ use Rattle.std.proofs.Common.{◌≡◌, ℕ, Bool, true, false, ◌==◌, ◌�
 use Rattle.std.proofs.Common.{ap, ◌∙◌, subst, arith, Result, Ok, Err}
 use Rattle.std.proofs.lemmas.Bool.Decides.{nat_tests}
 use Rattle.std.proofs.lemmas.List.{length-drop}
-use Rattle.descent.specs.Grammar.{Prod, give, token, call, mark, only}
+use Rattle.descent.specs.Grammar.{Prod, give, token, call, only}
 use Rattle.descent.specs.Reading.{take, too_deep, nothing, head, choose, done, fault, Unexpected, Deep, Barred, Twice}
-use Rattle.descent.specs.Reading.{by_give, by_word, by_mark, by_clash, by_depth, by_nothing}
+use Rattle.descent.specs.Reading.{by_give, by_word, by_depth, by_nothing}
 use Rattle.ruby_grammar.specs.Words.{Word}
 use Rattle.ruby_grammar.specs.Marks.{Mark}
 use Rattle.ruby_grammar.specs.Signs.{is, sign}

@@ -1,5 +1,5 @@
 -- Parts of definitions, each with what follows it.
-use Rattle.std.specs.Prelude.{◌≡◌, ℕ, Bool, false, List, [], ◌∷◌, ◌++◌, Option, Some, Result, Ok, Err}
+use Rattle.std.specs.Prelude.{◌≡◌, ℕ, Bool, false, List, [], ◌++◌, Option, Some, Result, Ok, Err}
 use Rattle.descent.specs.Grammar.{Prod, give, token, call, mark, only}
 use Rattle.descent.specs.Reading.{Outcome}
 use Rattle.ruby_types.specs.declared.tree.ConstRef.{ConstRef}

@@ -1,11 +1,11 @@
 -- Each alternative of the rules of definitions is fine.
-use Rattle.std.proofs.Common.{◌≡◌, ℕ, Bool, true, false, not, List, [], ◌∷◌, ◌++◌, Option, Some, None, refl, sym, ap}
+use Rattle.std.proofs.Common.{◌≡◌, ℕ, Bool, true, false, not, List, [], ◌∷◌, ◌++◌, Option, Some, None, refl, sym}
 use Rattle.std.proofs.Common.{subst, append_assoc, append-nil}
 use Rattle.ruby_types.specs.declared.tree.ConstRef.{ConstRef}
 use Rattle.ruby_types.specs.declared.tree.Def.{Def}
 use Rattle.ruby_types.specs.declared.tree.Def.TheVariants as def
 use Rattle.ruby_grammar.specs.Signs.{has, is_variable}
-use Rattle.ruby_grammar.specs.Marks.{Mark, opens_class, defines, opens_module}
+use Rattle.ruby_grammar.specs.Marks.{opens_class, defines, opens_module}
 use Rattle.ruby_grammar.specs.Rules.{Name, Path, Body, Heading, Block, file, definitions, more_definitions, definition}
 use Rattle.ruby_grammar.specs.Rules.{parent, heading, parameter_list, parameters, more_parameters, more_readers}
 use Rattle.ruby_grammar.specs.Values.{behind_sign}
@@ -83,7 +83,8 @@ method_formed : (here : Body) (h : Heading) (names : List Name) (n : List d.Deed
     t.FormedStmt (r.may_set here.anywhere h) t.several names body.stmts body.names →
     d.FormedDef here.path d.definition (def.Method h.single h.name names body.stmts) ((n ++ []) ++ [])
 method_formed here h names n body top z i p e b =
-    subst (λ l. d.FormedDef here.path d.definition (def.Method h.single h.name names body.stmts) ((l ++ []) ++ [])) (sym e)
+    subst (λ l. d.FormedDef here.path d.definition (def.Method h.single h.name names body.stmts) ((l ++ []) ++ []))
+    (sym e)
     (d.is_method top i p (subst (λ v. t.FormedStmt (r.may_set v h) t.several names body.stmts body.names) z b))
 
 member_fine : (here : Body) (top : Bool) → r.at_top here.path ≡ top →

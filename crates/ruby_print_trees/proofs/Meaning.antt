@@ -13,7 +13,7 @@ use Rattle.ruby_token.specs.Cut.{is_big}
 use Rattle.descent.specs.Grammar.{Prod, give, token, call, mark, Item, word, marked}
 use Rattle.ruby_grammar.specs.Words.{Word}
 use Rattle.ruby_grammar.specs.Signs.{is_text_piece}
-use Rattle.ruby_grammar.specs.Marks.{Mark, opens_class, gives_parent, defines}
+use Rattle.ruby_grammar.specs.Marks.{Mark, gives_parent, defines}
 use Rattle.ruby_grammar.specs.Rules.{ruby, Val, Name, Path, Sort, Rule, file, definitions, more_definitions, definition}
 use Rattle.ruby_grammar.specs.Rules.{opened_path}
 use Rattle.ruby_grammar.specs.Rules.{path_rest, parent, constant, heading, parameter_list, parameters, more_parameters}

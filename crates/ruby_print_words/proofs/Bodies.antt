@@ -21,7 +21,7 @@ use Rattle.ruby_grammar.specs.Rules as rule
 use Rattle.ruby_grammar.specs.Definitions.{body, at_top, counts, top_forms, member_forms}
 use Rattle.ruby_grammar.proofs.Tools.{among_behind}
 use Rattle.ruby_print_pieces.specs.Pieces.{mark, name, newline, space, close_paren, path, path_more, listed}
-use Rattle.ruby_print_pieces.specs.Pieces.{listed_more, word_at, behind_piece, dot}
+use Rattle.ruby_print_pieces.specs.Pieces.{listed_more}
 use Rattle.ruby_print_pieces.specs.Names.{IsPath}
 use Rattle.ruby_print_pieces.specs.Formed.{IsConstant}
 use Rattle.ruby_print_pieces.specs.FormedFiles.{Deed, deed, IsInner, FormedPath, FormedParameters, FormedReaders}
@@ -32,7 +32,7 @@ use Rattle.ruby_print_pieces.specs.Definitions.{definition, heading, parameters}
 use Rattle.ruby_print_words.proofs.Building.{Reads, reads, given, takes, says, valued, Under}
 use Rattle.ruby_print_pieces.proofs.Folds.{pieces_of_definition}
 use Rattle.ruby_print_words.proofs.Lifting.{Ready}
-use Rattle.ruby_print_words.proofs.Primaries.{is_free, path_reads, constant_reads}
+use Rattle.ruby_print_words.proofs.Primaries.{is_free, constant_reads}
 use Rattle.ruby_print_words.proofs.Branches.{Several, variable_passes}
 use Rattle.ruby_print_words.proofs.Marked.{Tells, tells, tells_of, tells_over, m_given, m_takes, m_mark, m_then}
 use Rattle.ruby_print_words.proofs.Marked.{m_then_plain, m_ends, m_says, m_over, m_valued, deed_of}

@@ -130,18 +130,21 @@ definitions-returns-clause-reads t c = finish {s = some_defs} _ c.lines.defs _ c
 pub inside-returns-in_err-defs-clause-reads : goal.inside-returns-in_err-defs-clause-reads
 inside-returns-in_err-defs-clause-reads t c =
     let p = err_from_is_err_and c.from_residual.result c.from_residual.ensures.1 in
-    rw (p.1, p.2) (body_breaks (body_view c.args.place c.args.marks.now) c.args.marks.now c.args.cursor.now _ c.definitions.new.marks
+    rw (p.1, p.2) (body_breaks (body_view c.args.place c.args.marks.now) c.args.marks.now c.args.cursor.now _
+    c.definitions.new.marks
     c.definitions.new.cursor c.in_err-defs.ensures.reads)
 
 pub inside-returns-in_err-take-clause-reads : goal.inside-returns-in_err-take-clause-reads
 inside-returns-in_err-take-clause-reads t c =
     let p = err_from_is_err_and c.from_residual-in_err-take.result c.from_residual-in_err-take.ensures.1 in
-    rw (p.1, p.2) (body_lacks_end (body_view c.args.place c.args.marks.now) c.args.marks.now c.args.cursor.now c.in_ok-defs.defs
+    rw (p.1, p.2) (body_lacks_end (body_view c.args.place c.args.marks.now) c.args.marks.now c.args.cursor.now
+    c.in_ok-defs.defs
     c.definitions.new.marks c.definitions.new.cursor c.in_ok-defs.ensures.reads _ c.take.new.self
     c.in_err-take.ensures.stays c.in_err-take.ensures.other c.in_err-take.ensures.fault)
 
 pub inside-returns-clause-reads : goal.inside-returns-clause-reads
 inside-returns-clause-reads t c =
-    body_reads (body_view c.args.place c.args.marks.now) c.args.marks.now c.args.cursor.now c.in_ok-defs.defs c.definitions.new.marks
+    body_reads (body_view c.args.place c.args.marks.now) c.args.marks.now c.args.cursor.now c.in_ok-defs.defs
+    c.definitions.new.marks
     c.definitions.new.cursor c.in_ok-defs.ensures.reads c.take.new.self c.in_ok-take.ensures.ok
     c.in_ok-take.ensures.passed

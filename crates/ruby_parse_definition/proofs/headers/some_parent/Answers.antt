@@ -1,5 +1,6 @@
 use Rattle.std.proofs.lemmas.Result.{err_from_is_err_and}
-use Rattle.ruby_parse_definition.proofs.HeaderLaws.{no_less, parent_breaks, parent_clashes, parent_lacks_line, parent_read}
+use Rattle.ruby_parse_definition.proofs.HeaderLaws.{no_less, parent_breaks, parent_clashes, parent_lacks_line}
+use Rattle.ruby_parse_definition.proofs.HeaderLaws.{parent_read}
 use Rattle.ruby_parse_definition.proofs.headers.some_parent.Goals as goal
 
 pub returns-in_err-take-clause-reads : goal.returns-in_err-take-clause-reads

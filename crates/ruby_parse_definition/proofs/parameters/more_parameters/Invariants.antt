@@ -8,7 +8,8 @@ use Rattle.ruby_parse_definition.proofs.parameters.more_parameters.Given as goal
 abbrev pub invariant-names : goal.invariant-names
 invariant-names l = record {
   goes_on : (ms : List Mark) →
-      LeadsQuietly (only (rules.more_parameters l.fn.first)) ms l.fn.cursor (only (rules.more_parameters l.names)) ms l.cursor;
+      LeadsQuietly (only (rules.more_parameters l.fn.first)) ms l.fn.cursor (only (rules.more_parameters l.names)) ms
+      l.cursor;
   shorter : length l.cursor ≤ length l.fn.cursor;
 }
 
