@@ -8,8 +8,8 @@ ghost use Rattle.ruby_grammar.specs.Answers.{kind_of_next};
 ghost use Rattle.ruby_parse.specs.Stops.{kind_view, left_over, stop_of, GivesTree};
 
 use crate::fault::{MEMORY, SyntaxFault, SyntaxKind};
-use ruby_parse_cursor::signs::is_left_out;
-use ruby_parse_cursor::{Fault, Reader};
+use ruby_parse_cursor::terminals::is_left_out;
+use ruby_parse_cursor::{Cursor, Fault};
 use ruby_parse_definition::file;
 use ruby_token::Token;
 use ruby_types::FileTree;
@@ -17,20 +17,20 @@ use ruby_words::ruby_words;
 use std::alloc::Global;
 
 /// The place of the word at hand, or of the end.
-fn place(reader: &Reader<'_>, end: u32) -> u32
-    ensures { result ≡ place end reader.now }
+fn place(cursor: &Cursor<'_>, end: u32) -> u32
+    ensures { result ≡ place end cursor.now }
 {
-    match reader.word() {
+    match cursor.peek_word() {
         Some(word) => word.at,
         None => end,
     }
 }
 
 /// Why nothing goes on with the word at hand.
-fn kind(reader: &Reader<'_>) -> SyntaxKind
-    ensures { result ≡ kind_view (kind_of_next reader.now) }
+fn kind(cursor: &Cursor<'_>) -> SyntaxKind
+    ensures { result ≡ kind_view (kind_of_next cursor.now) }
 {
-    if is_left_out(reader.sign()) {
+    if is_left_out(cursor.peek_terminal()) {
         SyntaxKind::NotInProfile
     } else {
         SyntaxKind::Expected
@@ -38,27 +38,27 @@ fn kind(reader: &Reader<'_>) -> SyntaxKind
 }
 
 /// The fault of a word that nothing goes on with, or of an end that comes too early.
-fn left_over(reader: &Reader<'_>, end: u32) -> SyntaxFault
-    ensures { result ≡ left_over end reader.now }
+fn left_over(cursor: &Cursor<'_>, end: u32) -> SyntaxFault
+    ensures { result ≡ left_over end cursor.now }
 {
     SyntaxFault {
-        at: place(reader, end),
-        kind: kind(reader),
+        at: place(cursor, end),
+        kind: kind(cursor),
     }
 }
 
 /// The fault that stopped this reader.
-fn stop(fault: Fault, reader: &Reader<'_>, end: u32) -> SyntaxFault
-    ensures { result ≡ stop_of end reader.now fault }
+fn stop(fault: Fault, cursor: &Cursor<'_>, end: u32) -> SyntaxFault
+    ensures { result ≡ stop_of end cursor.now fault }
 {
     match fault {
-        Fault::Unexpected => left_over(reader, end),
+        Fault::Unexpected => left_over(cursor, end),
         Fault::Deep => SyntaxFault {
-            at: place(reader, end),
+            at: place(cursor, end),
             kind: SyntaxKind::TooDeep,
         },
         Fault::Barred => SyntaxFault {
-            at: place(reader, end),
+            at: place(cursor, end),
             kind: SyntaxKind::NotInProfile,
         },
         Fault::Twice(at) => SyntaxFault {
@@ -70,10 +70,10 @@ fn stop(fault: Fault, reader: &Reader<'_>, end: u32) -> SyntaxFault
 }
 
 /// Whether all words are read.
-fn is_at_end(reader: &Reader<'_>) -> bool
-    ensures { IsTrue result ↔ (reader.now ≡ []) }
+fn is_at_end(cursor: &Cursor<'_>) -> bool
+    ensures { IsTrue result ↔ (cursor.now ≡ []) }
 {
-    reader.word().is_none()
+    cursor.peek_word().is_none()
 }
 
 /// The tree of these tokens, or where reading them stops. They end at a place.
@@ -87,15 +87,15 @@ pub fn read(
     ensures { GivesTree (words_of bytes.now tokens.now) end result }
 {
     let words = ruby_words();
-    let mut reader = Reader::new(bytes, &words, tokens);
-    match file(alloc, &mut reader) {
+    let mut cursor = Cursor::new(bytes, &words, tokens);
+    match file(alloc, &mut cursor) {
         Ok(tree) => {
-            if is_at_end(&reader) {
+            if is_at_end(&cursor) {
                 Ok(tree)
             } else {
-                Err(left_over(&reader, end))
+                Err(left_over(&cursor, end))
             }
         }
-        Err(fault) => Err(stop(fault, &reader, end)),
+        Err(fault) => Err(stop(fault, &cursor, end)),
     }
 }

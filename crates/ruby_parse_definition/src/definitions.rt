@@ -11,8 +11,8 @@ use crate::headers;
 use crate::members::other;
 use crate::place::Place;
 use case_table::cases;
-use ruby_parse_cursor::signs::LINE;
-use ruby_parse_cursor::{Fault, Reader};
+use ruby_parse_cursor::terminals::LINE;
+use ruby_parse_cursor::{Cursor, Fault};
 use ruby_parse_marks::Marks;
 use ruby_parse_steps::opened;
 use ruby_types::{Def, Defs};
@@ -23,50 +23,50 @@ use ruby_words::{CLASS, END, MODULE};
 pub fn definitions(
     place: Place<'_>,
     marks: &mut Marks,
-    reader: &mut Reader<'_>,
+    cursor: &mut Cursor<'_>,
 ) -> Result<Defs, Fault>
-    ensures reads { GivesMarkedRule (rules.definitions (body_view place.entry) []) marks.old reader.old result
-        marks.new reader.new }
-    ensures shorter { length reader.new ≤ length reader.old }
+    ensures reads { GivesMarkedRule (rules.definitions (body_view place.entry) []) marks.old cursor.old result
+        marks.new cursor.new }
+    ensures shorter { length cursor.new ≤ length cursor.old }
 {
     let mut defs = Defs::new(place.alloc);
-    'lines: while place.begins(reader) {
-        defs.push(definition(place, marks, reader)?)?;
-        if !reader.sees(LINE) {
+    'lines: while place.begins(cursor) {
+        defs.push(definition(place, marks, cursor)?)?;
+        if !cursor.sees(LINE) {
             return Ok(defs);
         }
-        reader.skip();
+        cursor.skip();
     }
     Ok(defs)
 }
 
 #[cycle(definition)]
-fn definition(place: Place<'_>, marks: &mut Marks, reader: &mut Reader<'_>) -> Result<Def, Fault>
-    ensures reads { GivesMarkedRule (rules.definition (body_view place.entry)) marks.old reader.old result marks.new
-        reader.new }
-    ensures shorter { length reader.new ≤ length reader.old }
+fn definition(place: Place<'_>, marks: &mut Marks, cursor: &mut Cursor<'_>) -> Result<Def, Fault>
+    ensures reads { GivesMarkedRule (rules.definition (body_view place.entry)) marks.old cursor.old result marks.new
+        cursor.new }
+    ensures shorter { length cursor.new ≤ length cursor.old }
 {
-    cases!(reader.code();
+    cases!(cursor.peek_code();
         MODULE => {
             let levels = opened(place.levels)?;
-            module(place, levels, marks, reader)
+            module(place, levels, marks, cursor)
         },
         CLASS => {
             let levels = opened(place.levels)?;
-            class(place, levels, marks, reader)
+            class(place, levels, marks, cursor)
         };
-        other(place, marks, reader)
+        other(place, marks, cursor)
     )
 }
 
 /// The definitions in a module or class, and its `end`.
 #[cycle(definition)]
-fn inside(place: Place<'_>, marks: &mut Marks, reader: &mut Reader<'_>) -> Result<Defs, Fault>
-    ensures reads { GivesBody (body_view place.entry) marks.old reader.old result marks.new reader.new }
-    ensures shorter { length reader.new ≤ length reader.old }
+fn inside(place: Place<'_>, marks: &mut Marks, cursor: &mut Cursor<'_>) -> Result<Defs, Fault>
+    ensures reads { GivesBody (body_view place.entry) marks.old cursor.old result marks.new cursor.new }
+    ensures shorter { length cursor.new ≤ length cursor.old }
 {
-    let defs = definitions(place, marks, reader)?;
-    reader.take(END)?;
+    let defs = definitions(place, marks, cursor)?;
+    cursor.take(END)?;
     Ok(defs)
 }
 
@@ -76,19 +76,19 @@ fn module(
     place: Place<'_>,
     levels: u32,
     marks: &mut Marks,
-    reader: &mut Reader<'_>,
+    cursor: &mut Cursor<'_>,
 ) -> Result<Def, Fault>
-    ensures reads { GivesMarked (spec.module_from (body_view place.entry) levels) marks.old reader.old result
-        marks.new reader.new }
-    ensures shorter { length reader.new ≤ length reader.old }
+    ensures reads { GivesMarked (spec.module_from (body_view place.entry) levels) marks.old cursor.old result
+        marks.new cursor.new }
+    ensures shorter { length cursor.new ≤ length cursor.old }
 {
-    let opened = headers::module(place, marks, reader)?;
+    let opened = headers::module(place, marks, cursor)?;
     let within = Place {
         levels,
         path: &opened.path,
         ..place
     };
-    let body = inside(within, marks, reader)?;
+    let body = inside(within, marks, cursor)?;
     Ok(Def::Module {
         path: opened.name,
         body,
@@ -101,19 +101,19 @@ fn class(
     place: Place<'_>,
     levels: u32,
     marks: &mut Marks,
-    reader: &mut Reader<'_>,
+    cursor: &mut Cursor<'_>,
 ) -> Result<Def, Fault>
-    ensures reads { GivesMarked (spec.class_from (body_view place.entry) levels) marks.old reader.old result
-        marks.new reader.new }
-    ensures shorter { length reader.new ≤ length reader.old }
+    ensures reads { GivesMarked (spec.class_from (body_view place.entry) levels) marks.old cursor.old result
+        marks.new cursor.new }
+    ensures shorter { length cursor.new ≤ length cursor.old }
 {
-    let (opened, parent) = headers::class(place, marks, reader)?;
+    let (opened, parent) = headers::class(place, marks, cursor)?;
     let within = Place {
         levels,
         path: &opened.path,
         ..place
     };
-    let body = inside(within, marks, reader)?;
+    let body = inside(within, marks, cursor)?;
     Ok(Def::Class {
         path: opened.name,
         parent,

@@ -5,17 +5,17 @@ ghost use Rattle.ruby_parse_definition.specs.Answers.{GivesFile, GivesFileFrom};
 
 use crate::definitions::definitions;
 use crate::place::Place;
-use ruby_parse_cursor::signs::LINE;
-use ruby_parse_cursor::{Fault, Reader};
+use ruby_parse_cursor::terminals::LINE;
+use ruby_parse_cursor::{Cursor, Fault};
 use ruby_parse_marks::Marks;
 use ruby_parse_steps::LEVELS;
 use ruby_types::{CPath, FileTree};
 use std::alloc::Global;
 
 /// A file behind its first Line, if it has one.
-fn file_from(alloc: Global, reader: &mut Reader<'_>) -> Result<FileTree, Fault>
-    ensures reads { GivesFileFrom reader.old result reader.new }
-    ensures shorter { length reader.new ≤ length reader.old }
+fn file_from(alloc: Global, cursor: &mut Cursor<'_>) -> Result<FileTree, Fault>
+    ensures reads { GivesFileFrom cursor.old result cursor.new }
+    ensures shorter { length cursor.new ≤ length cursor.old }
 {
     let path = CPath::new(alloc);
     let mut marks = Marks::new(alloc);
@@ -24,17 +24,17 @@ fn file_from(alloc: Global, reader: &mut Reader<'_>) -> Result<FileTree, Fault>
         levels: LEVELS,
         path: &path,
     };
-    let defs = definitions(place, &mut marks, reader)?;
+    let defs = definitions(place, &mut marks, cursor)?;
     Ok(FileTree { defs })
 }
 
 /// A whole file. Words may be left: the file ends before them, or they are its first fault.
-pub fn file<'a>(alloc: Global, reader: &mut Reader<'a>) -> Result<FileTree, Fault>
-    ensures reads { GivesFile reader.old result reader.new }
-    ensures shorter { length reader.new ≤ length reader.old }
+pub fn file<'a>(alloc: Global, cursor: &mut Cursor<'a>) -> Result<FileTree, Fault>
+    ensures reads { GivesFile cursor.old result cursor.new }
+    ensures shorter { length cursor.new ≤ length cursor.old }
 {
-    if reader.sees(LINE) {
-        reader.skip();
+    if cursor.sees(LINE) {
+        cursor.skip();
     }
-    file_from(alloc, reader)
+    file_from(alloc, cursor)
 }

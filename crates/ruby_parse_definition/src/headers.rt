@@ -10,8 +10,8 @@ ghost use Rattle.ruby_parse_definition.specs.Places.{body_view};
 use crate::counting::count;
 use crate::paths::allowed_rest;
 use crate::place::Place;
-use ruby_parse_cursor::signs::{CONST, LESS, LINE};
-use ruby_parse_cursor::{Fault, Reader};
+use ruby_parse_cursor::terminals::{CONST, LESS, LINE};
+use ruby_parse_cursor::{Cursor, Fault};
 use ruby_parse_marks::{Act, Marks};
 use ruby_parse_steps::{constant, longer};
 use ruby_types::{CPath, ConstRef};
@@ -32,24 +32,24 @@ pub struct Opened {
 }
 
 /// A path, which inside another definition is one name.
-fn path_as_written(place: Place<'_>, reader: &mut Reader<'_>) -> Result<Written, Fault>
-    ensures reads { GivesPath (at_top place.entry.path.now) reader.old result reader.new }
-    ensures shorter { length reader.new ≤ length reader.old }
+fn path_as_written(place: Place<'_>, cursor: &mut Cursor<'_>) -> Result<Written, Fault>
+    ensures reads { GivesPath (at_top place.entry.path.now) cursor.old result cursor.new }
+    ensures shorter { length cursor.new ≤ length cursor.old }
 {
-    let first = reader.taken(CONST)?;
+    let first = cursor.take_word(CONST)?;
     let path = longer(place.alloc, CPath::new(place.alloc), first.text)?;
-    let path = allowed_rest(place.alloc, place.is_top(), path, reader)?;
+    let path = allowed_rest(place.alloc, place.is_top(), path, cursor)?;
     Ok(Written { path, at: first.at })
 }
 
 /// `module`, its path and a Line. It counts behind the Line.
-pub fn module(place: Place<'_>, marks: &mut Marks, reader: &mut Reader<'_>) -> Result<Opened, Fault>
-    ensures reads { GivesModule (body_view place.entry) marks.old reader.old result marks.new reader.new }
-    ensures shorter { length reader.new ≤ length reader.old }
+pub fn module(place: Place<'_>, marks: &mut Marks, cursor: &mut Cursor<'_>) -> Result<Opened, Fault>
+    ensures reads { GivesModule (body_view place.entry) marks.old cursor.old result marks.new cursor.new }
+    ensures shorter { length cursor.new ≤ length cursor.old }
 {
-    reader.take(MODULE)?;
-    let written = path_as_written(place, reader)?;
-    reader.take(LINE)?;
+    cursor.take(MODULE)?;
+    let written = path_as_written(place, cursor)?;
+    cursor.take(LINE)?;
     let path = place.path_of(&written.path)?;
     count(marks, &path, Act::OpensModule, written.at)?;
     Ok(Opened {
@@ -63,16 +63,16 @@ fn some_parent(
     place: Place<'_>,
     at: u32,
     marks: &mut Marks,
-    reader: &mut Reader<'_>,
+    cursor: &mut Cursor<'_>,
 ) -> Result<ConstRef, Fault>
-    ensures reads { GivesParent place.entry.path.now at marks.old reader.old result marks.new reader.new }
-    ensures shorter { length reader.new ≤ length reader.old }
+    ensures reads { GivesParent place.entry.path.now at marks.old cursor.old result marks.new cursor.new }
+    ensures shorter { length cursor.new ≤ length cursor.old }
 {
-    reader.take(LESS)?;
+    cursor.take(LESS)?;
     count(marks, place.path, Act::OpensClass, at)?;
-    let parent = constant(place.alloc, reader)?;
+    let parent = constant(place.alloc, cursor)?;
     count(marks, place.path, Act::GivesParent, at)?;
-    reader.take(LINE)?;
+    cursor.take(LINE)?;
     Ok(parent)
 }
 
@@ -81,16 +81,16 @@ fn parent(
     place: Place<'_>,
     at: u32,
     marks: &mut Marks,
-    reader: &mut Reader<'_>,
+    cursor: &mut Cursor<'_>,
 ) -> Result<Option<ConstRef>, Fault>
-    ensures reads { GivesMarkedRule (rules.parent place.entry.path.now at) marks.old reader.old result marks.new
-        reader.new }
-    ensures shorter { length reader.new ≤ length reader.old }
+    ensures reads { GivesMarkedRule (rules.parent place.entry.path.now at) marks.old cursor.old result marks.new
+        cursor.new }
+    ensures shorter { length cursor.new ≤ length cursor.old }
 {
-    if reader.sees(LESS) {
-        Ok(Some(some_parent(place, at, marks, reader)?))
+    if cursor.sees(LESS) {
+        Ok(Some(some_parent(place, at, marks, cursor)?))
     } else {
-        reader.take(LINE)?;
+        cursor.take(LINE)?;
         count(marks, place.path, Act::OpensClass, at)?;
         Ok(None)
     }
@@ -100,19 +100,19 @@ fn parent(
 pub fn class(
     place: Place<'_>,
     marks: &mut Marks,
-    reader: &mut Reader<'_>,
+    cursor: &mut Cursor<'_>,
 ) -> Result<(Opened, Option<ConstRef>), Fault>
-    ensures reads { GivesClass (body_view place.entry) marks.old reader.old result marks.new reader.new }
-    ensures shorter { length reader.new ≤ length reader.old }
+    ensures reads { GivesClass (body_view place.entry) marks.old cursor.old result marks.new cursor.new }
+    ensures shorter { length cursor.new ≤ length cursor.old }
 {
-    reader.take(CLASS)?;
-    let written = path_as_written(place, reader)?;
+    cursor.take(CLASS)?;
+    let written = path_as_written(place, cursor)?;
     let path = place.path_of(&written.path)?;
     let inside = Place {
         path: &path,
         ..place
     };
-    let parent = parent(inside, written.at, marks, reader)?;
+    let parent = parent(inside, written.at, marks, cursor)?;
     let opened = Opened {
         name: written.path,
         path,

@@ -6,8 +6,8 @@ ghost use Rattle.ruby_grammar.specs.Rules as rules;
 ghost use Rattle.ruby_parse_steps.specs.Gives.{Gives, GivesRule};
 ghost use Rattle.ruby_parse_definition.specs.Parts.{heading_as};
 
-use ruby_parse_cursor::signs::{DOT, NAME};
-use ruby_parse_cursor::{Fault, Reader};
+use ruby_parse_cursor::terminals::{DOT, NAME};
+use ruby_parse_cursor::{Cursor, Fault};
 use ruby_types::Text;
 use ruby_words::SELF;
 use std::alloc::Global;
@@ -20,11 +20,11 @@ pub struct Heading {
     pub at: u32,
 }
 
-fn method_name(alloc: Global, single: bool, reader: &mut Reader<'_>) -> Result<Heading, Fault>
-    ensures reads { Gives (spec.method_name single) reader.old (heading_as result) reader.new }
-    ensures shorter { length reader.new ≤ length reader.old }
+fn method_name(alloc: Global, single: bool, cursor: &mut Cursor<'_>) -> Result<Heading, Fault>
+    ensures reads { Gives (spec.method_name single) cursor.old (heading_as result) cursor.new }
+    ensures shorter { length cursor.new ≤ length cursor.old }
 {
-    let word = reader.taken(NAME)?;
+    let word = cursor.take_word(NAME)?;
     let name = Text::from_bytes(alloc, word.text)?;
     Ok(Heading {
         single,
@@ -34,24 +34,24 @@ fn method_name(alloc: Global, single: bool, reader: &mut Reader<'_>) -> Result<H
 }
 
 /// `self`, `.` and a name.
-fn singleton(alloc: Global, reader: &mut Reader<'_>) -> Result<Heading, Fault>
-    ensures reads { Gives spec.singleton_heading reader.old (heading_as result) reader.new }
-    ensures shorter { length reader.new ≤ length reader.old }
+fn singleton(alloc: Global, cursor: &mut Cursor<'_>) -> Result<Heading, Fault>
+    ensures reads { Gives spec.singleton_heading cursor.old (heading_as result) cursor.new }
+    ensures shorter { length cursor.new ≤ length cursor.old }
 {
-    reader.take(SELF)?;
-    reader.take(DOT)?;
-    method_name(alloc, true, reader)
+    cursor.take(SELF)?;
+    cursor.take(DOT)?;
+    method_name(alloc, true, cursor)
 }
 
 /// A name, perhaps with `self.` before it.
-pub fn method_heading(alloc: Global, reader: &mut Reader<'_>) -> Result<Heading, Fault>
-    ensures reads { GivesRule rules.heading reader.old (heading_as result) reader.new }
-    ensures shorter { length reader.new ≤ length reader.old }
+pub fn method_heading(alloc: Global, cursor: &mut Cursor<'_>) -> Result<Heading, Fault>
+    ensures reads { GivesRule rules.heading cursor.old (heading_as result) cursor.new }
+    ensures shorter { length cursor.new ≤ length cursor.old }
 {
-    if reader.sees(SELF) {
-        singleton(alloc, reader)
-    } else if reader.sees(NAME) {
-        method_name(alloc, false, reader)
+    if cursor.sees(SELF) {
+        singleton(alloc, cursor)
+    } else if cursor.sees(NAME) {
+        method_name(alloc, false, cursor)
     } else {
         Err(Fault::Unexpected)
     }

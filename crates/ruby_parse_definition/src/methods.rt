@@ -14,8 +14,8 @@ use crate::headings::{Heading, method_heading};
 use crate::parameters::{Parameters, all_parameters};
 use crate::place::Place;
 use lists::Copying;
-use ruby_parse_cursor::signs::{CLOSE_PAREN, LINE, OPEN_PAREN};
-use ruby_parse_cursor::{Fault, Reader};
+use ruby_parse_cursor::terminals::{CLOSE_PAREN, LINE, OPEN_PAREN};
+use ruby_parse_cursor::{Cursor, Fault};
 use ruby_parse_marks::{Act, Mark, Marks};
 use ruby_parse_statement::{Body, statements};
 use ruby_parse_steps::opened;
@@ -35,17 +35,17 @@ fn enclosed<'a>(
     alloc: Global,
     mark: Mark,
     marks: &mut Marks,
-    reader: &mut Reader<'a>,
+    cursor: &mut Cursor<'a>,
 ) -> Result<Parameters<'a>, Fault>
-    ensures reads { GivesMarked (spec.parameters_from (mark_view mark) 0) marks.old reader.old result marks.new
-        reader.new }
-    ensures shorter { length reader.new ≤ length reader.old }
+    ensures reads { GivesMarked (spec.parameters_from (mark_view mark) 0) marks.old cursor.old result marks.new
+        cursor.new }
+    ensures shorter { length cursor.new ≤ length cursor.old }
 {
-    reader.take(OPEN_PAREN)?;
+    cursor.take(OPEN_PAREN)?;
     marks.add(mark)?;
-    let names = all_parameters(alloc, reader)?;
-    reader.take(CLOSE_PAREN)?;
-    reader.take(LINE)?;
+    let names = all_parameters(alloc, cursor)?;
+    cursor.take(CLOSE_PAREN)?;
+    cursor.take(LINE)?;
     Ok(names)
 }
 
@@ -55,17 +55,17 @@ fn parameter_list<'a>(
     levels: u32,
     mark: Mark,
     marks: &mut Marks,
-    reader: &mut Reader<'a>,
+    cursor: &mut Cursor<'a>,
 ) -> Result<Parameters<'a>, Fault>
-    ensures reads { GivesMarkedRule (rules.parameter_list levels (mark_view mark)) marks.old reader.old result
-        marks.new reader.new }
-    ensures shorter { length reader.new ≤ length reader.old }
+    ensures reads { GivesMarkedRule (rules.parameter_list levels (mark_view mark)) marks.old cursor.old result
+        marks.new cursor.new }
+    ensures shorter { length cursor.new ≤ length cursor.old }
 {
-    if reader.sees(OPEN_PAREN) {
+    if cursor.sees(OPEN_PAREN) {
         opened(levels)?;
-        enclosed(alloc, mark, marks, reader)
+        enclosed(alloc, mark, marks, cursor)
     } else {
-        reader.take(LINE)?;
+        cursor.take(LINE)?;
         marks.add(mark)?;
         Ok(Parameters::new(alloc))
     }
@@ -91,15 +91,15 @@ fn method_signature<'a>(
     place: Place<'_>,
     levels: u32,
     marks: &mut Marks,
-    reader: &mut Reader<'a>,
+    cursor: &mut Cursor<'a>,
 ) -> Result<Signature<'a>, Fault>
-    ensures reads { GivesSignature (body_view place.entry) levels marks.old reader.old result marks.new reader.new }
-    ensures shorter { length reader.new ≤ length reader.old }
+    ensures reads { GivesSignature (body_view place.entry) levels marks.old cursor.old result marks.new cursor.new }
+    ensures shorter { length cursor.new ≤ length cursor.old }
 {
-    reader.take(DEF)?;
-    let heading = method_heading(place.alloc, reader)?;
+    cursor.take(DEF)?;
+    let heading = method_heading(place.alloc, cursor)?;
     let mark = mark_of(place, &heading)?;
-    let parameters = parameter_list(place.alloc, levels, mark, marks, reader)?;
+    let parameters = parameter_list(place.alloc, levels, mark, marks, cursor)?;
     Ok(Signature {
         heading,
         parameters,
@@ -117,14 +117,14 @@ fn may_set(heading: &Heading) -> bool
 fn method_body<'a>(
     body: Body,
     parameters: Parameters<'a>,
-    reader: &mut Reader<'a>,
+    cursor: &mut Cursor<'a>,
 ) -> Result<Stmts, Fault>
-    ensures reads { GivesStatements (around_view body parameters.entry) reader.old result reader.new }
-    ensures shorter { length reader.new ≤ length reader.old }
+    ensures reads { GivesStatements (around_view body parameters.entry) cursor.old result cursor.new }
+    ensures shorter { length cursor.new ≤ length cursor.old }
 {
     let mut locals = parameters.into_locals(body.alloc)?;
-    let block = statements(body, &mut locals, reader)?;
-    reader.take(END)?;
+    let block = statements(body, &mut locals, cursor)?;
+    cursor.take(END)?;
     Ok(block.statements)
 }
 
@@ -133,13 +133,13 @@ pub fn method<'a>(
     place: Place<'_>,
     levels: u32,
     marks: &mut Marks,
-    reader: &mut Reader<'a>,
+    cursor: &mut Cursor<'a>,
 ) -> Result<Def, Fault>
-    ensures reads { GivesMarked (spec.method_from (body_view place.entry) levels) marks.old reader.old result
-        marks.new reader.new }
-    ensures shorter { length reader.new ≤ length reader.old }
+    ensures reads { GivesMarked (spec.method_from (body_view place.entry) levels) marks.old cursor.old result
+        marks.new cursor.new }
+    ensures shorter { length cursor.new ≤ length cursor.old }
 {
-    let signature = method_signature(place, levels, marks, reader)?;
+    let signature = method_signature(place, levels, marks, cursor)?;
     let Signature {
         heading,
         parameters,
@@ -150,7 +150,7 @@ pub fn method<'a>(
         levels,
         may_set: may_set(&heading),
     };
-    let body = method_body(inner, parameters, reader)?;
+    let body = method_body(inner, parameters, cursor)?;
     Ok(Def::Method {
         single: heading.single,
         name: heading.name,

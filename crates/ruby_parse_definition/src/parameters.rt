@@ -8,8 +8,8 @@ ghost use Rattle.ruby_grammar.specs.Rules as rules;
 ghost use Rattle.ruby_parse_cursor.specs.Views.{word_view};
 ghost use Rattle.ruby_parse_steps.specs.Gives.{GivesRule};
 
-use ruby_parse_cursor::signs::{COMMA, NAME};
-use ruby_parse_cursor::{Fault, Locals, Reader, Word, ends_in_suffix};
+use ruby_parse_cursor::terminals::{COMMA, NAME};
+use ruby_parse_cursor::{Cursor, Fault, Locals, Word, ends_in_suffix};
 use ruby_types::{Text, TextList};
 use std::alloc::{AllocError, Global};
 use std::marker::Model;
@@ -89,27 +89,27 @@ impl<'a> Parameters<'a> {
 }
 
 /// Whether a name that can be a parameter behind these is at hand.
-fn sees_parameter(names: &Parameters<'_>, reader: &Reader<'_>) -> bool
-    ensures { result ≡ next_is (is_new_parameter names.now) (head reader.now) }
+fn sees_parameter(names: &Parameters<'_>, cursor: &Cursor<'_>) -> bool
+    ensures { result ≡ next_is (is_new_parameter names.now) (head cursor.now) }
 {
-    match reader.word() {
+    match cursor.peek_word() {
         Some(word) => {
-            reader.sees(NAME) && !ends_in_suffix(word.text) && !names.contains(word.text)
+            cursor.sees(NAME) && !ends_in_suffix(word.text) && !names.contains(word.text)
         }
         None => false,
     }
 }
 
 /// Passes over a name that can be a parameter behind these, which has to be at hand, and gives it.
-fn parameter<'a>(names: &Parameters<'a>, reader: &mut Reader<'a>) -> Result<Word<'a>, Fault>
-    ensures ok { IfOk result (λ w. reader.old ≡ word_view w ∷ reader.new) }
+fn parameter<'a>(names: &Parameters<'a>, cursor: &mut Cursor<'a>) -> Result<Word<'a>, Fault>
+    ensures ok { IfOk result (λ w. cursor.old ≡ word_view w ∷ cursor.new) }
     ensures parameter { IfOk result (λ w. is_new_parameter names.now (word_view w) ≡ true) }
     ensures fault { IfErr result (λ e. e ≡ Fault.Unexpected) }
-    ensures stays { OnErr result (reader.new ≡ reader.old) }
-    ensures other { OnErr result (next_is (is_new_parameter names.now) (head reader.old) ≡ false) }
+    ensures stays { OnErr result (cursor.new ≡ cursor.old) }
+    ensures other { OnErr result (next_is (is_new_parameter names.now) (head cursor.old) ≡ false) }
 {
-    if sees_parameter(names, reader) {
-        reader.taken(NAME)
+    if sees_parameter(names, cursor) {
+        cursor.take_word(NAME)
     } else {
         Err(Fault::Unexpected)
     }
@@ -118,28 +118,28 @@ fn parameter<'a>(names: &Parameters<'a>, reader: &mut Reader<'a>) -> Result<Word
 /// The parameters that follow these, each behind a comma.
 fn more_parameters<'a>(
     first: Parameters<'a>,
-    reader: &mut Reader<'a>,
+    cursor: &mut Cursor<'a>,
 ) -> Result<Parameters<'a>, Fault>
-    ensures reads { GivesRule (rules.more_parameters first.entry) reader.old result reader.new }
-    ensures shorter { length reader.new ≤ length reader.old }
+    ensures reads { GivesRule (rules.more_parameters first.entry) cursor.old result cursor.new }
+    ensures shorter { length cursor.new ≤ length cursor.old }
 {
     let mut names = first;
-    'names: while reader.sees(COMMA) {
-        reader.skip();
-        let word = parameter(&names, reader)?;
+    'names: while cursor.sees(COMMA) {
+        cursor.skip();
+        let word = parameter(&names, cursor)?;
         names = names.with(word.text)?;
     }
     Ok(names)
 }
 
 /// The parameters between parentheses.
-pub fn all_parameters<'a>(alloc: Global, reader: &mut Reader<'a>) -> Result<Parameters<'a>, Fault>
-    ensures reads { GivesRule rules.parameters reader.old result reader.new }
-    ensures shorter { length reader.new ≤ length reader.old }
+pub fn all_parameters<'a>(alloc: Global, cursor: &mut Cursor<'a>) -> Result<Parameters<'a>, Fault>
+    ensures reads { GivesRule rules.parameters cursor.old result cursor.new }
+    ensures shorter { length cursor.new ≤ length cursor.old }
 {
     let none = Parameters::new(alloc);
-    match parameter(&none, reader) {
-        Ok(word) => more_parameters(none.with(word.text)?, reader),
+    match parameter(&none, cursor) {
+        Ok(word) => more_parameters(none.with(word.text)?, cursor),
         Err(_) => Ok(none),
     }
 }

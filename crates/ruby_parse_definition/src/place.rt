@@ -9,8 +9,8 @@ ghost use Rattle.ruby_grammar.specs.Statements.{scope};
 ghost use Rattle.ruby_parse_steps.specs.Gives.{GivesRule};
 
 use lists::Copying;
-use ruby_parse_cursor::signs::CONST;
-use ruby_parse_cursor::{Fault, Locals, Reader};
+use ruby_parse_cursor::terminals::CONST;
+use ruby_parse_cursor::{Cursor, Fault, Locals};
 use ruby_parse_expression::expression;
 use ruby_parse_steps::Scope;
 use ruby_types::{CPath, Expr};
@@ -26,17 +26,17 @@ pub struct Place<'p> {
 }
 
 /// Whether a definition that may stand anywhere is at hand.
-fn begins_top(reader: &Reader<'_>) -> bool
-    ensures { result ≡ next_is starts_top (head reader.now) }
+fn begins_top(cursor: &Cursor<'_>) -> bool
+    ensures { result ≡ next_is starts_top (head cursor.now) }
 {
-    reader.sees(CONST) || reader.sees(MODULE) || reader.sees(CLASS)
+    cursor.sees(CONST) || cursor.sees(MODULE) || cursor.sees(CLASS)
 }
 
 /// Whether a definition that stands only inside another one is at hand.
-fn begins_member(reader: &Reader<'_>) -> bool
-    ensures { result ≡ next_is starts_member (head reader.now) }
+fn begins_member(cursor: &Cursor<'_>) -> bool
+    ensures { result ≡ next_is starts_member (head cursor.now) }
 {
-    reader.sees(INCLUDE) || reader.sees(ATTR_READER) || reader.sees(DEF)
+    cursor.sees(INCLUDE) || cursor.sees(ATTR_READER) || cursor.sees(DEF)
 }
 
 impl Place<'_> {
@@ -51,10 +51,10 @@ impl Place<'_> {
     }
 
     /// Whether a definition is at hand that may stand here.
-    pub fn begins(self, reader: &Reader<'_>) -> bool
-        ensures { result ≡ next_is (starts_definition self.entry.path.now) (head reader.now) }
+    pub fn begins(self, cursor: &Cursor<'_>) -> bool
+        ensures { result ≡ next_is (starts_definition self.entry.path.now) (head cursor.now) }
     {
-        begins_top(reader) || (!self.is_top() && begins_member(reader))
+        begins_top(cursor) || (!self.is_top() && begins_member(cursor))
     }
 
     /// The full path of what is written so here.
@@ -69,9 +69,9 @@ impl Place<'_> {
     }
 
     /// An expression here. No variable is known outside methods.
-    pub fn expression(self, reader: &mut Reader<'_>) -> Result<Expr, Fault>
-        ensures reads { GivesRule (rules.expression (scope self.entry.levels [])) reader.old result reader.new }
-        ensures shorter { length reader.new ≤ length reader.old }
+    pub fn expression(self, cursor: &mut Cursor<'_>) -> Result<Expr, Fault>
+        ensures reads { GivesRule (rules.expression (scope self.entry.levels [])) cursor.old result cursor.new }
+        ensures shorter { length cursor.new ≤ length cursor.old }
     {
         let locals = Locals::new(self.alloc);
         let scope = Scope {
@@ -79,6 +79,6 @@ impl Place<'_> {
             levels: self.levels,
             locals: &locals,
         };
-        expression(scope, reader)
+        expression(scope, cursor)
     }
 }

@@ -15,102 +15,102 @@ pub class-returns-in_err-body-clause-reads : goal.class-returns-in_err-body-clau
 class-returns-in_err-body-clause-reads t c =
     let p = err_from_is_err_and c.from_residual-in_err-body.result c.from_residual-in_err-body.ensures.1 in
     rw (p.1, p.2) (class_breaks c.args.place.levels c.args.place.path.now c.args.levels c.args.marks.now
-    c.class.new.marks c.args.reader.now c.class.new.reader c.in_ok-opened.opened c.in_ok-opened.parent
-    c.in_ok-opened.ensures.reads _ c.inside.new.marks c.inside.new.reader c.in_err-body.ensures.reads)
+    c.class.new.marks c.args.cursor.now c.class.new.cursor c.in_ok-opened.opened c.in_ok-opened.parent
+    c.in_ok-opened.ensures.reads _ c.inside.new.marks c.inside.new.cursor c.in_err-body.ensures.reads)
 
 pub class-returns-clause-reads : goal.class-returns-clause-reads
 class-returns-clause-reads t c =
     class_reads c.args.place.levels c.args.place.path.now c.args.levels c.args.marks.now c.class.new.marks
-    c.args.reader.now c.class.new.reader c.in_ok-opened.opened c.in_ok-opened.parent c.in_ok-opened.ensures.reads
-    c.in_ok-body.body c.inside.new.marks c.inside.new.reader c.in_ok-body.ensures.reads
+    c.args.cursor.now c.class.new.cursor c.in_ok-opened.opened c.in_ok-opened.parent c.in_ok-opened.ensures.reads
+    c.in_ok-body.body c.inside.new.marks c.inside.new.cursor c.in_ok-body.ensures.reads
 
 pub module-returns-in_err-body-clause-reads : goal.module-returns-in_err-body-clause-reads
 module-returns-in_err-body-clause-reads t c =
     let p = err_from_is_err_and c.from_residual-in_err-body.result c.from_residual-in_err-body.ensures.1 in
     rw (p.1, p.2) (module_breaks c.args.place.levels c.args.place.path.now c.args.levels c.args.marks.now
-    c.module.new.marks c.args.reader.now c.module.new.reader c.in_ok-opened.opened c.in_ok-opened.ensures.reads _
-    c.inside.new.marks c.inside.new.reader c.in_err-body.ensures.reads)
+    c.module.new.marks c.args.cursor.now c.module.new.cursor c.in_ok-opened.opened c.in_ok-opened.ensures.reads _
+    c.inside.new.marks c.inside.new.cursor c.in_err-body.ensures.reads)
 
 pub module-returns-clause-reads : goal.module-returns-clause-reads
 module-returns-clause-reads t c =
     module_reads c.args.place.levels c.args.place.path.now c.args.levels c.args.marks.now c.module.new.marks
-    c.args.reader.now c.module.new.reader c.in_ok-opened.opened c.in_ok-opened.ensures.reads c.in_ok-body.body
-    c.inside.new.marks c.inside.new.reader c.in_ok-body.ensures.reads
+    c.args.cursor.now c.module.new.cursor c.in_ok-opened.opened c.in_ok-opened.ensures.reads c.in_ok-body.body
+    c.inside.new.marks c.inside.new.cursor c.in_ok-body.ensures.reads
 
 pub definition-returns-in_err-levels-clause-reads : goal.definition-returns-in_err-levels-clause-reads
 definition-returns-in_err-levels-clause-reads t c =
     let p = err_from_is_err_and c.from_residual.result c.from_residual.ensures.1 in
     rw (p.1, p.2) (module_deep c.args.place.levels c.args.place.path.now c.args.marks.now c.args.marks.now
-    c.args.reader.now _ (sees_code c.args.reader.now 1 (sym c.code.ensures ∙ (cc))) c.in_err-levels.ensures.none
+    c.args.cursor.now _ (sees_code c.args.cursor.now 1 (sym c.peek_code.ensures ∙ (cc))) c.in_err-levels.ensures.none
     c.in_err-levels.ensures.fault)
 
 pub definition-returns-in_err-levels-2-clause-reads : goal.definition-returns-in_err-levels-2-clause-reads
 definition-returns-in_err-levels-2-clause-reads t c =
     let p = err_from_is_err_and c.from_residual-in_err-levels-2.result c.from_residual-in_err-levels-2.ensures.1 in
     rw (p.1, p.2) (class_deep c.args.place.levels c.args.place.path.now c.args.marks.now c.args.marks.now
-    c.args.reader.now _ (sees_code c.args.reader.now 2 (sym c.code.ensures ∙ (cc)))
+    c.args.cursor.now _ (sees_code c.args.cursor.now 2 (sym c.peek_code.ensures ∙ (cc)))
     c.in_err-levels-2.ensures.none c.in_err-levels-2.ensures.fault)
 
 pub definition-returns-in_ok-levels-clause-reads : goal.definition-returns-in_ok-levels-clause-reads
 definition-returns-in_ok-levels-clause-reads t c =
-    module_chosen c.args.place.levels c.args.place.path.now c.args.marks.now c.module.new.marks c.args.reader.now
-    c.in_ok-levels.levels c.module.result c.module.new.reader c.in_ok-levels.ensures.left
-    (sees_code c.args.reader.now 1 (sym c.code.ensures ∙ (cc))) c.module.ensures.reads
+    module_chosen c.args.place.levels c.args.place.path.now c.args.marks.now c.module.new.marks c.args.cursor.now
+    c.in_ok-levels.levels c.module.result c.module.new.cursor c.in_ok-levels.ensures.left
+    (sees_code c.args.cursor.now 1 (sym c.peek_code.ensures ∙ (cc))) c.module.ensures.reads
 
 pub definition-returns-in_ok-levels-2-clause-reads : goal.definition-returns-in_ok-levels-2-clause-reads
 definition-returns-in_ok-levels-2-clause-reads t c =
-    class_chosen c.args.place.levels c.args.place.path.now c.args.marks.now c.class.new.marks c.args.reader.now
-    c.in_ok-levels-2.levels c.class.result c.class.new.reader c.in_ok-levels-2.ensures.left
-    (sees_code c.args.reader.now 2 (sym c.code.ensures ∙ (cc))) c.class.ensures.reads
+    class_chosen c.args.place.levels c.args.place.path.now c.args.marks.now c.class.new.marks c.args.cursor.now
+    c.in_ok-levels-2.levels c.class.result c.class.new.cursor c.in_ok-levels-2.ensures.left
+    (sees_code c.args.cursor.now 2 (sym c.peek_code.ensures ∙ (cc))) c.class.ensures.reads
 
 pub definitions-returns-in_err-definition-clause-reads : goal.definitions-returns-in_err-definition-clause-reads
 definitions-returns-in_err-definition-clause-reads t c =
     let p = err_from_is_err_and c.from_residual.result c.from_residual.ensures.1 in
     rw (p.1, p.2) (stop _ _ _ _ _ _ _ _ c.lines.invariant.goes_on
-    (definitions_break (body_view c.args.place) c.lines.defs c.lines.marks c.lines.reader _
-    c.definition.new.marks c.definition.new.reader (sym c.begins.ensures ∙ c.lines-test.true)
+    (definitions_break (body_view c.args.place) c.lines.defs c.lines.marks c.lines.cursor _
+    c.definition.new.marks c.definition.new.cursor (sym c.begins.ensures ∙ c.lines-test.true)
     c.in_err-definition.ensures.reads))
 
 pub definitions-returns-then-not-sees-clause-reads : goal.definitions-returns-then-not-sees-clause-reads
 definitions-returns-then-not-sees-clause-reads t c =
-    finish {s = some_defs} _ c.push.new.self _ c.definition.new.marks _ c.definition.new.reader
+    finish {s = some_defs} _ c.push.new.self _ c.definition.new.marks _ c.definition.new.cursor
     (then c.lines.invariant.goes_on
-    (definition_without_line (body_view c.args.place) c.lines.defs c.lines.marks c.lines.reader _ c.push.new.self
-    c.definition.new.marks c.definition.new.reader (sym c.begins.ensures ∙ c.lines-test.true)
+    (definition_without_line (body_view c.args.place) c.lines.defs c.lines.marks c.lines.cursor _ c.push.new.self
+    c.definition.new.marks c.definition.new.cursor (sym c.begins.ensures ∙ c.lines-test.true)
     c.in_ok-definition.ensures.reads c.in_ok-push.ensures.ok (cc)))
 
 pub definitions-lines-preserved : goal.definitions-lines-preserved
 definitions-lines-preserved t c = record {
   goes_on = then c.lines.invariant.goes_on
-      (definition_and_line (body_view c.args.place) c.lines.defs c.lines.marks c.lines.reader _ c.push.new.self
-      c.definition.new.marks c.definition.new.reader (sym c.begins.ensures ∙ c.lines-test.true)
+      (definition_and_line (body_view c.args.place) c.lines.defs c.lines.marks c.lines.cursor _ c.push.new.self
+      c.definition.new.marks c.definition.new.cursor (sym c.begins.ensures ∙ c.lines-test.true)
       c.in_ok-definition.ensures.reads c.in_ok-push.ensures.ok c.skip.new.self (cc) c.skip.ensures);
-  shorter = let a : length c.skip.new.self < length c.definition.new.reader =
-      skip_falls is_line c.definition.new.reader c.skip.new.self (cc) c.skip.ensures in
+  shorter = let a : length c.skip.new.self < length c.definition.new.cursor =
+      skip_falls is_line c.definition.new.cursor c.skip.new.self (cc) c.skip.ensures in
       omega (arith, a, c.in_ok-definition.ensures.shorter, c.lines.invariant.shorter);
 }
 
 pub definitions-returns-clause-reads : goal.definitions-returns-clause-reads
-definitions-returns-clause-reads t c = finish {s = some_defs} _ c.lines.defs _ c.lines.marks _ c.lines.reader
+definitions-returns-clause-reads t c = finish {s = some_defs} _ c.lines.defs _ c.lines.marks _ c.lines.cursor
     (then c.lines.invariant.goes_on
-    (definitions_end (body_view c.args.place) c.lines.defs c.lines.marks c.lines.reader (sym c.begins.ensures
+    (definitions_end (body_view c.args.place) c.lines.defs c.lines.marks c.lines.cursor (sym c.begins.ensures
     ∙ c.lines-test.false)))
 
 pub inside-returns-in_err-defs-clause-reads : goal.inside-returns-in_err-defs-clause-reads
 inside-returns-in_err-defs-clause-reads t c =
     let p = err_from_is_err_and c.from_residual.result c.from_residual.ensures.1 in
-    rw (p.1, p.2) (body_breaks (body_view c.args.place) c.args.marks.now c.args.reader.now _ c.definitions.new.marks
-    c.definitions.new.reader c.in_err-defs.ensures.reads)
+    rw (p.1, p.2) (body_breaks (body_view c.args.place) c.args.marks.now c.args.cursor.now _ c.definitions.new.marks
+    c.definitions.new.cursor c.in_err-defs.ensures.reads)
 
 pub inside-returns-in_err-take-clause-reads : goal.inside-returns-in_err-take-clause-reads
 inside-returns-in_err-take-clause-reads t c =
     let p = err_from_is_err_and c.from_residual-in_err-take.result c.from_residual-in_err-take.ensures.1 in
-    rw (p.1, p.2) (body_lacks_end (body_view c.args.place) c.args.marks.now c.args.reader.now c.in_ok-defs.defs
-    c.definitions.new.marks c.definitions.new.reader c.in_ok-defs.ensures.reads _ c.take.new.self
+    rw (p.1, p.2) (body_lacks_end (body_view c.args.place) c.args.marks.now c.args.cursor.now c.in_ok-defs.defs
+    c.definitions.new.marks c.definitions.new.cursor c.in_ok-defs.ensures.reads _ c.take.new.self
     c.in_err-take.ensures.stays c.in_err-take.ensures.other c.in_err-take.ensures.fault)
 
 pub inside-returns-clause-reads : goal.inside-returns-clause-reads
 inside-returns-clause-reads t c =
-    body_reads (body_view c.args.place) c.args.marks.now c.args.reader.now c.in_ok-defs.defs c.definitions.new.marks
-    c.definitions.new.reader c.in_ok-defs.ensures.reads c.take.new.self c.in_ok-take.ensures.ok
+    body_reads (body_view c.args.place) c.args.marks.now c.args.cursor.now c.in_ok-defs.defs c.definitions.new.marks
+    c.definitions.new.cursor c.in_ok-defs.ensures.reads c.take.new.self c.in_ok-take.ensures.ok
     c.in_ok-take.ensures.passed

@@ -22,10 +22,10 @@ decreases-class l = 4 * l.levels + 3
 
 abbrev pub invariant-definitions-lines : goal.invariant-definitions-lines
 invariant-definitions-lines l = record {
-  goes_on : Leads (only (rules.definitions (body_view l.place) [])) l.fn.marks l.fn.reader
-      (only (rules.definitions (body_view l.place) l.defs)) l.marks l.reader;
-  shorter : length l.reader ≤ length l.fn.reader;
+  goes_on : Leads (only (rules.definitions (body_view l.place) [])) l.fn.marks l.fn.cursor
+      (only (rules.definitions (body_view l.place) l.defs)) l.marks l.cursor;
+  shorter : length l.cursor ≤ length l.fn.cursor;
 }
 
 abbrev pub decreases-definitions-lines : goal.decreases-definitions-lines
-decreases-definitions-lines l = length l.reader
+decreases-definitions-lines l = length l.cursor

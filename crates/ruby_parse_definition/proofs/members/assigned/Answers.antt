@@ -9,39 +9,39 @@ use Rattle.ruby_parse_definition.proofs.members.assigned.Goals as goal
 pub returns-in_err-word-clause-reads : goal.returns-in_err-word-clause-reads
 returns-in_err-word-clause-reads c =
     let p = err_from_is_err_and c.from_residual.result c.from_residual.ensures.1 in
-    rw (p.1, p.2) (no_const c.args.place.levels c.args.place.path.now c.args.marks.now c.args.reader.now _
-    c.args.marks.now c.taken.new.self c.in_err-word.ensures.stays c.in_err-word.ensures.other
+    rw (p.1, p.2) (no_const c.args.place.levels c.args.place.path.now c.args.marks.now c.args.cursor.now _
+    c.args.marks.now c.take_word.new.self c.in_err-word.ensures.stays c.in_err-word.ensures.other
     c.in_err-word.ensures.fault)
 
 pub returns-in_err-take-clause-reads : goal.returns-in_err-take-clause-reads
 returns-in_err-take-clause-reads c =
     let p = err_from_is_err_and c.from_residual-in_err-take.result c.from_residual-in_err-take.ensures.1 in
-    rw (p.1, p.2) (assign_lacks_sign c.args.place.levels c.args.place.path.now c.args.marks.now c.args.reader.now
-    (word_view c.in_ok-word.word) c.taken.new.self c.in_ok-word.ensures.ok c.in_ok-word.ensures.sign _
+    rw (p.1, p.2) (assign_lacks_sign c.args.place.levels c.args.place.path.now c.args.marks.now c.args.cursor.now
+    (word_view c.in_ok-word.word) c.take_word.new.self c.in_ok-word.ensures.ok c.in_ok-word.ensures.terminal _
     c.args.marks.now c.take.new.self c.in_err-take.ensures.stays c.in_err-take.ensures.other
     c.in_err-take.ensures.fault)
 
 pub returns-in_err-copy-clause-shorter : goal.returns-in_err-copy-clause-shorter
 returns-in_err-copy-clause-shorter c =
-    let a : length c.taken.new.self ≤ length c.args.reader.now = word_shorter c.args.reader.now c.taken.new.self
+    let a : length c.take_word.new.self ≤ length c.args.cursor.now = word_shorter c.args.cursor.now c.take_word.new.self
     (word_view c.in_ok-word.word) c.in_ok-word.ensures.ok in
-    let b : length c.take.new.self ≤ length c.taken.new.self =
-    drop_shorter c.taken.new.self c.take.new.self c.in_ok-take.ensures.passed in
+    let b : length c.take.new.self ≤ length c.take_word.new.self =
+    drop_shorter c.take_word.new.self c.take.new.self c.in_ok-take.ensures.passed in
     omega (arith, a, b)
 
 pub returns-in_err-path-clause-shorter : goal.returns-in_err-path-clause-shorter
 returns-in_err-path-clause-shorter c =
-    let a : length c.taken.new.self ≤ length c.args.reader.now = word_shorter c.args.reader.now c.taken.new.self
+    let a : length c.take_word.new.self ≤ length c.args.cursor.now = word_shorter c.args.cursor.now c.take_word.new.self
     (word_view c.in_ok-word.word) c.in_ok-word.ensures.ok in
-    let b : length c.take.new.self ≤ length c.taken.new.self =
-    drop_shorter c.taken.new.self c.take.new.self c.in_ok-take.ensures.passed in
+    let b : length c.take.new.self ≤ length c.take_word.new.self =
+    drop_shorter c.take_word.new.self c.take.new.self c.in_ok-take.ensures.passed in
     omega (arith, a, b)
 
 pub returns-in_err-count-clause-reads : goal.returns-in_err-count-clause-reads
 returns-in_err-count-clause-reads c =
     let p = err_from_is_err_and c.from_residual-in_err-count.result c.from_residual-in_err-count.ensures.1 in
-    rw (p.1, p.2) (assign_clashes c.args.place.levels c.args.place.path.now c.args.marks.now c.args.reader.now
-    (word_view c.in_ok-word.word) c.taken.new.self c.in_ok-word.ensures.ok c.in_ok-word.ensures.sign
+    rw (p.1, p.2) (assign_clashes c.args.place.levels c.args.place.path.now c.args.marks.now c.args.cursor.now
+    (word_view c.in_ok-word.word) c.take_word.new.self c.in_ok-word.ensures.ok c.in_ok-word.ensures.terminal
     c.take.new.self c.in_ok-take.ensures.ok c.in_ok-take.ensures.passed c.in_ok-path.path (c.in_ok-path.ensures
     ∙ ap (λ l. l ++ c.in_ok-word.word.text.now ∷ []) c.in_ok-copy.ensures) _ c.count.new.marks
     c.in_err-count.ensures)
@@ -49,17 +49,17 @@ returns-in_err-count-clause-reads c =
 pub returns-in_err-value-clause-reads : goal.returns-in_err-value-clause-reads
 returns-in_err-value-clause-reads c =
     let p = err_from_is_err_and c.from_residual-in_err-value.result c.from_residual-in_err-value.ensures.1 in
-    rw (p.1, p.2) (assign_breaks c.args.place.levels c.args.place.path.now c.args.marks.now c.args.reader.now
-    (word_view c.in_ok-word.word) c.taken.new.self c.in_ok-word.ensures.ok c.in_ok-word.ensures.sign
+    rw (p.1, p.2) (assign_breaks c.args.place.levels c.args.place.path.now c.args.marks.now c.args.cursor.now
+    (word_view c.in_ok-word.word) c.take_word.new.self c.in_ok-word.ensures.ok c.in_ok-word.ensures.terminal
     c.take.new.self c.in_ok-take.ensures.ok c.in_ok-take.ensures.passed c.in_ok-path.path (c.in_ok-path.ensures
     ∙ ap (λ l. l ++ c.in_ok-word.word.text.now ∷ []) c.in_ok-copy.ensures) c.count.new.marks tt
-    c.in_ok-count.ensures _ c.expression.new.reader c.in_err-value.ensures.reads)
+    c.in_ok-count.ensures _ c.expression.new.cursor c.in_err-value.ensures.reads)
 
 pub returns-clause-reads : goal.returns-clause-reads
 returns-clause-reads c =
-    assign_reads c.args.place.levels c.args.place.path.now c.args.marks.now c.args.reader.now
-    (word_view c.in_ok-word.word) c.taken.new.self c.in_ok-word.ensures.ok c.in_ok-word.ensures.sign
+    assign_reads c.args.place.levels c.args.place.path.now c.args.marks.now c.args.cursor.now
+    (word_view c.in_ok-word.word) c.take_word.new.self c.in_ok-word.ensures.ok c.in_ok-word.ensures.terminal
     c.take.new.self c.in_ok-take.ensures.ok c.in_ok-take.ensures.passed c.in_ok-path.path (c.in_ok-path.ensures
     ∙ ap (λ l. l ++ c.in_ok-word.word.text.now ∷ []) c.in_ok-copy.ensures) c.count.new.marks tt
-    c.in_ok-count.ensures c.in_ok-value.value c.in_ok-name.name c.expression.new.reader c.in_ok-name.ensures
+    c.in_ok-count.ensures c.in_ok-value.value c.in_ok-name.name c.expression.new.cursor c.in_ok-name.ensures
     c.in_ok-value.ensures.reads

@@ -10,18 +10,18 @@ pub returns-in_err-reader_name-clause-reads : goal.returns-in_err-reader_name-cl
 returns-in_err-reader_name-clause-reads c =
     let p = err_from_is_err_and c.from_residual.result c.from_residual.ensures.1 in
     rw (p.1, p.2) (stop _ _ _ _ _ _ _ _ c.names.invariant.goes_on
-    (reader_lacks c.args.place.path.now c.names.marks c.names.reader c.names.names c.skip.new.self
-    (cc) c.skip.ensures _ c.reader_name.new.marks c.reader_name.new.reader c.in_err-reader_name.ensures.reads))
+    (reader_lacks c.args.place.path.now c.names.marks c.names.cursor c.names.names c.skip.new.self
+    (cc) c.skip.ensures _ c.reader_name.new.marks c.reader_name.new.cursor c.in_err-reader_name.ensures.reads))
 
 pub names-preserved : goal.names-preserved
 names-preserved c = record {
   goes_on = then c.names.invariant.goes_on
-      (reader_goes_on c.args.place.path.now c.names.marks c.names.reader c.names.names c.skip.new.self
-      (cc) c.skip.ensures _ c.push.new.self c.reader_name.new.marks c.reader_name.new.reader
+      (reader_goes_on c.args.place.path.now c.names.marks c.names.cursor c.names.names c.skip.new.self
+      (cc) c.skip.ensures _ c.push.new.self c.reader_name.new.marks c.reader_name.new.cursor
       c.in_ok-reader_name.ensures.reads c.in_ok-push.ensures.ok);
   shorter = grind (arith, common_steps);
 }
 
 pub returns-clause-reads : goal.returns-clause-reads
-returns-clause-reads c = finish {s = some_names} _ c.names.names _ c.names.marks _ c.names.reader
-    (then c.names.invariant.goes_on (readers_end c.args.place.path.now c.names.marks c.names.reader c.names.names (cc)))
+returns-clause-reads c = finish {s = some_names} _ c.names.names _ c.names.marks _ c.names.cursor
+    (then c.names.invariant.goes_on (readers_end c.args.place.path.now c.names.marks c.names.cursor c.names.names (cc)))

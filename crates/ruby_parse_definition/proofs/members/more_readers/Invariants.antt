@@ -6,10 +6,10 @@ use Rattle.ruby_parse_definition.proofs.members.more_readers.Given as goal
 
 abbrev pub invariant-names : goal.invariant-names
 invariant-names l = record {
-  goes_on : Leads (only (rules.more_readers l.place.path.now l.fn.first)) l.fn.marks l.fn.reader
-      (only (rules.more_readers l.place.path.now l.names)) l.marks l.reader;
-  shorter : length l.reader ≤ length l.fn.reader;
+  goes_on : Leads (only (rules.more_readers l.place.path.now l.fn.first)) l.fn.marks l.fn.cursor
+      (only (rules.more_readers l.place.path.now l.names)) l.marks l.cursor;
+  shorter : length l.cursor ≤ length l.fn.cursor;
 }
 
 abbrev pub decreases-names : goal.decreases-names
-decreases-names l = length l.reader
+decreases-names l = length l.cursor

@@ -8,9 +8,9 @@ use Rattle.ruby_parse_definition.proofs.parameters.more_parameters.Given as goal
 abbrev pub invariant-names : goal.invariant-names
 invariant-names l = record {
   goes_on : (ms : List Mark) →
-      Leads (only (rules.more_parameters l.fn.first)) ms l.fn.reader (only (rules.more_parameters l.names)) ms l.reader;
-  shorter : length l.reader ≤ length l.fn.reader;
+      Leads (only (rules.more_parameters l.fn.first)) ms l.fn.cursor (only (rules.more_parameters l.names)) ms l.cursor;
+  shorter : length l.cursor ≤ length l.fn.cursor;
 }
 
 abbrev pub decreases-names : goal.decreases-names
-decreases-names l = length l.reader
+decreases-names l = length l.cursor
