@@ -57,7 +57,7 @@ length-tested [] = refl
 length-tested (p ∷ ps) = ap (λ n. suc n) (length-tested ps)
 
 -- one level, with `same` inside
-abbrev same_open : Value-F Value → Value-F Value → Bool
+abbrev pub same_open : Value-F Value → Value-F Value → Bool
 same_open (layer.Hash ps) (layer.Hash qs) = nat_eq (length ps) (length qs) && same_counts same_both ps ps qs
 same_open x y = same_layer (λ v. v) same x y
 
