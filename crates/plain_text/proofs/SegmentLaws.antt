@@ -42,6 +42,7 @@ segments-pieces (byte ∷ rest) =
       | false ↦ λ other. onto_first-pieces byte (segments rest) (eqb-false byte slash other) (segments-pieces rest)
     ] refl
 
+-- the pieces that are cut are segments
 pub are_segments : (path : List ℕ) → AreSegments path (segments path)
 are_segments path = (segments-some path, segments-pieces path, join_with_byte-slice_split slash path)
 
@@ -60,6 +61,7 @@ joined-segments (piece ∷ next ∷ pieces) some all =
     ∙ sym (slice_split_at (λ byte. byte == slash) piece slash (join_with_byte slash (next ∷ pieces))
     (no_slash-passes piece (All-head IsPiece piece (next ∷ pieces) all)) refl)
 
+-- no other list has the path's segments
 pub only_segments : (path : List ℕ) (pieces : List (List ℕ)) → AreSegments path pieces → pieces ≡ segments path
 only_segments path pieces are = joined-segments pieces are.0 are.1 ∙ ap segments are.2
 

@@ -1,3 +1,3 @@
 mod PrefixLaws
-mod SameLaws
+pub mod SameLaws
 mod SizeLaws

@@ -57,7 +57,7 @@ length-tested [] = refl
 length-tested (p ∷ ps) = ap (λ n. suc n) (length-tested ps)
 
 -- one level, with `same` inside
-abbrev same_open : Value-F Value → Value-F Value → Bool
+abbrev pub same_open : Value-F Value → Value-F Value → Bool
 same_open (layer.Hash ps) (layer.Hash qs) = nat_eq (length ps) (length qs) && same_counts same_both ps ps qs
 same_open x y = same_layer (λ v. v) same x y
 
@@ -80,6 +80,7 @@ layers (layer.Sym m) (layer.Sym n) = refl
 layers (layer.Module m) (layer.Module n) = refl
 layers _ _ = refl
 
+-- values are the same by one level of both
 pub same_is : (a b : Value) → same a b ≡ same_open (out-Value a) (out-Value b)
 unfolding same
 same_is a b =
@@ -93,32 +94,39 @@ same_is a b =
 same_at : (a b : Value) (x y : Value-F Value) → out-Value a ≡ x → out-Value b ≡ y → same a b ≡ same_open x y
 same_at a b x y p q = same_is a b ∙ ap (λ l. same_open l (out-Value b)) p ∙ ap (λ l. same_open x l) q
 
+-- two numbers
 pub same-Int : (a b : Value) (m n : ℤ) → a ≡ v.Int m → b ≡ v.Int n → same a b ≡ int_eq m n
 same-Int a b m n p q = same_at a b (layer.Int m) (layer.Int n) (ap out-Value p ∙ v.outs-Int m)
     (ap out-Value q ∙ v.outs-Int n)
 
+-- two texts
 pub same-Str : (a b : Value) (s t : List ℕ) → a ≡ v.Str s → b ≡ v.Str t → same a b ≡ bytes_eq s t
 same-Str a b s t p q = same_at a b (layer.Str s) (layer.Str t) (ap out-Value p ∙ v.outs-Str s)
     (ap out-Value q ∙ v.outs-Str t)
 
+-- two symbols
 pub same-Sym : (a b : Value) (s t : List ℕ) → a ≡ v.Sym s → b ≡ v.Sym t → same a b ≡ bytes_eq s t
 same-Sym a b s t p q = same_at a b (layer.Sym s) (layer.Sym t) (ap out-Value p ∙ v.outs-Sym s)
     (ap out-Value q ∙ v.outs-Sym t)
 
+-- two arrays
 pub same-Array : (a b : Value) (xs ys : List Value) → a ≡ v.Array xs → b ≡ v.Array ys → same a b ≡ same_each same xs ys
 same-Array a b xs ys p q = same_at a b (layer.Array xs) (layer.Array ys) (ap out-Value p ∙ v.outs-Array xs)
     (ap out-Value q ∙ v.outs-Array ys)
 
+-- two hashes
 pub same-Hash : (a b : Value) (xs ys : List (Value × Value)) → a ≡ v.Hash xs → b ≡ v.Hash ys →
     same a b ≡ (nat_eq (length xs) (length ys) && same_counts same_both xs xs ys)
 same-Hash a b xs ys p q = same_at a b (layer.Hash xs) (layer.Hash ys) (ap out-Value p ∙ v.outs-Hash xs)
     (ap out-Value q ∙ v.outs-Hash ys)
 
+-- two modules
 pub same-Module : (a b : Value) (s t : List (List ℕ)) → a ≡ v.Module s → b ≡ v.Module t →
     same a b ≡ same_each bytes_eq s t
 same-Module a b s t p q = same_at a b (layer.Module s) (layer.Module t) (ap out-Value p ∙ v.outs-Module s)
     (ap out-Value q ∙ v.outs-Module t)
 
+-- two objects
 pub same-Object : (a b : Value) (s t : List (List ℕ)) (xs ys : List (Value × Value)) → a ≡ v.Object s xs →
     b ≡ v.Object t ys → same a b ≡ (same_each bytes_eq s t && same_each same_both xs ys)
 same-Object a b s t xs ys p q = same_at a b (layer.Object s xs) (layer.Object t ys)
@@ -126,6 +134,7 @@ same-Object a b s t xs ys p q = same_at a b (layer.Object s xs) (layer.Object t 
 
 -- ---- a list of pairs with one pair more read
 
+-- the counts of the pairs from one on are its own and those of the pairs behind it
 pub counts-at : (test : Value × Value → Value × Value → Bool) (ps own other : List (Value × Value)) (i : ℕ)
     (d : Value × Value) → i < length ps →
     same_counts test (drop i ps) own other
@@ -148,9 +157,11 @@ module _ (test : Value × Value → Value × Value → Bool) (ps xs own other : 
       let h : i < length ps = rw (← same_list) below in
       rw e at (sym (counts-at test ps own other i d h) ∙ so_far)
 
+  -- a pair that stands in the two lists unequally often decides
   pub counts_differ : (m ≡ n → ⊥) → false ≡ w
   counts_differ ne = rw (eqb_of_ne _ _ (λ q. ne (in_own ∙ q ∙ sym in_other))) at counts_here
 
+  -- after a pair that stands in both equally often the others decide
   pub counts_go_on : m ≡ n → same_counts test (drop (i + 1) ps) own other ≡ w
   counts_go_on q = rw (eq-eqb _ _ (sym in_own ∙ q ∙ in_other)) at counts_here
 
