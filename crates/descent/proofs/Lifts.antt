@@ -217,7 +217,8 @@ module _ {g : Signs} (grammar : Grammar g) (choices : Choices g) (lift : Lift g)
       some_first z ws = refl
 
       -- where the fault is lost, a sentence beside goes on with the word there
-      pub goes_on : {s : g.Sort} {p : Prod g s} {ms : List g.Mark} {ws rest : List g.Word} {why : Why g} (q : Prod g s) →
+      pub goes_on : {s : g.Sort} {p : Prod g s} {ms : List g.Mark} {ws rest : List g.Word} {why : Why g}
+          (q : Prod g s) →
           Reads grammar choices s p ms ws (fault why rest) → Lost lift why → Up lift s p q → Goes p → Goes q →
           GoesOn q ws rest
       goes_on {rest = rest} q (by_word {test = test} {w = w} {ws = ws} t a) l (up_token {next' = next'} u) go go' =

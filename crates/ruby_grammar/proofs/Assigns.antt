@@ -5,13 +5,15 @@ use Rattle.descent.specs.Reading.{take, choose, head}
 use Rattle.descent.proofs.Starts.{starts}
 use Rattle.descent.proofs.Avoids.{Avoided, Avoids, NoneBad, avoids}
 use Rattle.ruby_grammar.specs.Words.{Word}
-use Rattle.ruby_grammar.specs.Signs.{units, products, sums, comparisons, equalities, conjunctions, disjunctions}
-use Rattle.ruby_grammar.specs.Signs.{is_operator, is_ask, is_colon, is_path, is_dot, is_comma, is_const, is_ivar}
-use Rattle.ruby_grammar.specs.Signs.{is_variable, is_assign, is_name, is_label, is_arrow, is_close_paren}
-use Rattle.ruby_grammar.specs.Signs.{is_close_bracket, is_close_brace, is_text_open, is_text_close, is_text_piece}
-use Rattle.ruby_grammar.specs.Signs.{is_inside_open, is_inside_close, is_tight_paren, is_tight_bracket, is_open_bracket}
-use Rattle.ruby_grammar.specs.Signs.{is_open_paren, is_open_brace, is_not, is_minus, is_int, is_sym, is_nil, is_true}
-use Rattle.ruby_grammar.specs.Signs.{is_false, is_self, is_return, is_raise}
+use Rattle.ruby_grammar.specs.Terminals.{units, products, sums, comparisons, equalities, conjunctions, disjunctions}
+use Rattle.ruby_grammar.specs.Terminals.{is_operator, is_ask, is_colon, is_path, is_dot, is_comma, is_const, is_ivar}
+use Rattle.ruby_grammar.specs.Terminals.{is_variable, is_assign, is_name, is_label, is_arrow, is_close_paren}
+use Rattle.ruby_grammar.specs.Terminals.{is_close_bracket, is_close_brace, is_text_open, is_text_close, is_text_piece}
+use Rattle.ruby_grammar.specs.Terminals.{is_inside_open, is_inside_close, is_tight_paren, is_tight_bracket}
+use Rattle.ruby_grammar.specs.Terminals.{is_open_bracket}
+use Rattle.ruby_grammar.specs.Terminals.{is_open_paren, is_open_brace, is_not, is_minus, is_int, is_sym, is_nil}
+use Rattle.ruby_grammar.specs.Terminals.{is_true}
+use Rattle.ruby_grammar.specs.Terminals.{is_false, is_self, is_return, is_raise}
 use Rattle.ruby_grammar.specs.Rules.{ruby, Sort, Rule, Around, file, definitions, more_definitions, definition}
 use Rattle.ruby_grammar.specs.Rules.{path_rest, parent, constant, heading, parameter_list, parameters, more_parameters}
 use Rattle.ruby_grammar.specs.Rules.{opened_path}
@@ -25,9 +27,9 @@ use Rattle.ruby_grammar.specs.Choices.{next_is, pick, ruby_choices, starts_expre
 use Rattle.ruby_grammar.specs.Follow.{ends_simple}
 use Rattle.ruby_grammar.specs.Expressions as e
 use Rattle.ruby_grammar.specs.Statements as s
-use Rattle.ruby_grammar.proofs.Tools.{Each, each_among, each_append, each_opening, sign_is}
+use Rattle.ruby_grammar.proofs.Tools.{Each, each_among, each_append, each_opening, terminal_is}
 use Rattle.ruby_grammar.proofs.First.{ruby_firsts, starts_law}
-use Rattle.ruby_grammar.proofs.Fits.{unless_sign, simple_cases}
+use Rattle.ruby_grammar.proofs.Fits.{unless_terminal, simple_cases}
 use Rattle.ruby_grammar.proofs.Choosing.{EvaluatingChosen}
 
 abbrev is_clean : {t : Sort} → Rule t → Bool
@@ -58,8 +60,9 @@ clean_forms : {t : Sort} (rule : Rule t) → is_clean rule ≡ true → Each (λ
 clean_forms (expression here) h = ((refl, λ y. (refl, λ z. tt)), tt)
 clean_forms (choice_rest here x) h = (
   λ w t. (
-    unless_sign 89 is_ask is_assign w (sign_is 89 w) (λ e. rw e refl) t,
-    (refl, λ y. λ w t. (unless_sign 89 is_colon is_assign w (sign_is 89 w) (λ e. rw e refl) t, (refl, λ z. tt))),
+    unless_terminal 89 is_ask is_assign w (terminal_is 89 w) (λ e. rw e refl) t,
+    (refl, λ y. λ w t. (unless_terminal 89 is_colon is_assign w (terminal_is 89 w) (λ e. rw e refl) t,
+        (refl, λ z. tt))),
   ),
   (tt, tt),
 )
@@ -73,101 +76,102 @@ clean_forms (operators disjunctions here) h = ((refl, λ y. (refl, λ z. tt)), t
 clean_forms (more_operators units here x) h = (tt, tt)
 clean_forms (more_operators products here x) h = (
   λ w t. (
-    unless_sign 89 (is_operator products) is_assign w (sign_is 89 w) (λ e. rw e refl) t,
+    unless_terminal 89 (is_operator products) is_assign w (terminal_is 89 w) (λ e. rw e refl) t,
     (refl, λ y. (refl, λ z. tt)),
   ),
   (tt, tt),
 )
 clean_forms (more_operators sums here x) h = (
   λ w t. (
-    unless_sign 89 (is_operator sums) is_assign w (sign_is 89 w) (λ e. rw e refl) t,
+    unless_terminal 89 (is_operator sums) is_assign w (terminal_is 89 w) (λ e. rw e refl) t,
     (refl, λ y. (refl, λ z. tt)),
   ),
   (tt, tt),
 )
 clean_forms (more_operators comparisons here x) h = (
   λ w t. (
-    unless_sign 89 (is_operator comparisons) is_assign w (sign_is 89 w) (λ e. rw e refl) t,
+    unless_terminal 89 (is_operator comparisons) is_assign w (terminal_is 89 w) (λ e. rw e refl) t,
     (refl, λ y. (refl, λ z. tt)),
   ),
   (tt, tt),
 )
 clean_forms (more_operators equalities here x) h = (
-  λ w t. (unless_sign 89 (is_operator equalities) is_assign w (sign_is 89 w) (λ e. rw e refl) t, (refl, λ y. tt)),
+  λ w t. (unless_terminal 89 (is_operator equalities) is_assign w (terminal_is 89 w) (λ e. rw e refl) t,
+      (refl, λ y. tt)),
   (tt, tt),
 )
 clean_forms (more_operators conjunctions here x) h = (
   λ w t. (
-    unless_sign 89 (is_operator conjunctions) is_assign w (sign_is 89 w) (λ e. rw e refl) t,
+    unless_terminal 89 (is_operator conjunctions) is_assign w (terminal_is 89 w) (λ e. rw e refl) t,
     (refl, λ y. (refl, λ z. tt)),
   ),
   (tt, tt),
 )
 clean_forms (more_operators disjunctions here x) h = (
   λ w t. (
-    unless_sign 89 (is_operator disjunctions) is_assign w (sign_is 89 w) (λ e. rw e refl) t,
+    unless_terminal 89 (is_operator disjunctions) is_assign w (terminal_is 89 w) (λ e. rw e refl) t,
     (refl, λ y. (refl, λ z. tt)),
   ),
   (tt, tt),
 )
 clean_forms (unary here) h = each_append (λ p. Avoids no_assign p) (e.opening here.levels (e.not_from here)) _
     (each_opening (λ p. Avoids no_assign p) here.levels (e.not_from here)
-    (λ n. λ w t. (unless_sign 89 is_not is_assign w (sign_is 89 w) (λ e. rw e refl) t, (refl, λ y. tt))))
+    (λ n. λ w t. (unless_terminal 89 is_not is_assign w (terminal_is 89 w) (λ e. rw e refl) t, (refl, λ y. tt))))
     (each_append (λ p. Avoids no_assign p) (e.opening here.levels (e.minus_from here)) _
     (each_opening (λ p. Avoids no_assign p) here.levels (e.minus_from here)
-    (λ n. λ w t. (unless_sign 89 is_minus is_assign w (sign_is 89 w) (λ e. rw e refl) t, (refl, λ y. tt))))
+    (λ n. λ w t. (unless_terminal 89 is_minus is_assign w (terminal_is 89 w) (λ e. rw e refl) t, (refl, λ y. tt))))
     (((refl, λ y. tt), tt)))
 clean_forms (postfix here) h = ((refl, λ y. (refl, λ z. tt)), tt)
 clean_forms (more_postfix here x) h = (
   λ w t. (
-    unless_sign 89 is_dot is_assign w (sign_is 89 w) (λ e. rw e refl) t,
+    unless_terminal 89 is_dot is_assign w (terminal_is 89 w) (λ e. rw e refl) t,
     λ w t.
-        (unless_sign 89 is_name is_assign w (sign_is 89 w) (λ e. rw e refl) t, (refl, λ y. (refl, λ z. tt))),
+        (unless_terminal 89 is_name is_assign w (terminal_is 89 w) (λ e. rw e refl) t, (refl, λ y. (refl, λ z. tt))),
   ),
   each_append (λ p. Avoids no_assign p) (e.opening here.levels (e.index_from here x)) _
       (each_opening (λ p. Avoids no_assign p) here.levels (e.index_from here x)
       (λ n. λ w t. (
-        unless_sign 89 is_tight_bracket is_assign w (sign_is 89 w) (λ e. rw e refl) t,
+        unless_terminal 89 is_tight_bracket is_assign w (terminal_is 89 w) (λ e. rw e refl) t,
         (
           refl,
           λ y. λ w t. (
-            unless_sign 89 is_close_bracket is_assign w (sign_is 89 w) (λ e. rw e refl) t,
+            unless_terminal 89 is_close_bracket is_assign w (terminal_is 89 w) (λ e. rw e refl) t,
             (refl, λ z. tt),
           ),
         ),
       ))) ((tt, tt)),
 )
 clean_forms (primary here) h = (
-  λ w t. (unless_sign 89 is_int is_assign w (sign_is 89 w) (λ e. rw e refl) t, tt),
+  λ w t. (unless_terminal 89 is_int is_assign w (terminal_is 89 w) (λ e. rw e refl) t, tt),
   (
     λ w t. (
-      unless_sign 89 is_text_open is_assign w (sign_is 89 w) (λ e. rw e refl) t,
-      (refl, λ y. λ w t. (unless_sign 89 is_text_close is_assign w (sign_is 89 w) (λ e. rw e refl) t, tt)),
+      unless_terminal 89 is_text_open is_assign w (terminal_is 89 w) (λ e. rw e refl) t,
+      (refl, λ y. λ w t. (unless_terminal 89 is_text_close is_assign w (terminal_is 89 w) (λ e. rw e refl) t, tt)),
     ),
     (
-      λ w t. (unless_sign 89 is_sym is_assign w (sign_is 89 w) (λ e. rw e refl) t, tt),
+      λ w t. (unless_terminal 89 is_sym is_assign w (terminal_is 89 w) (λ e. rw e refl) t, tt),
       (
-        λ w t. (unless_sign 89 is_nil is_assign w (sign_is 89 w) (λ e. rw e refl) t, tt),
+        λ w t. (unless_terminal 89 is_nil is_assign w (terminal_is 89 w) (λ e. rw e refl) t, tt),
         (
-          λ w t. (unless_sign 89 is_true is_assign w (sign_is 89 w) (λ e. rw e refl) t, tt),
+          λ w t. (unless_terminal 89 is_true is_assign w (terminal_is 89 w) (λ e. rw e refl) t, tt),
           (
-            λ w t. (unless_sign 89 is_false is_assign w (sign_is 89 w) (λ e. rw e refl) t, tt),
+            λ w t. (unless_terminal 89 is_false is_assign w (terminal_is 89 w) (λ e. rw e refl) t, tt),
             (
-              λ w t. (unless_sign 89 is_self is_assign w (sign_is 89 w) (λ e. rw e refl) t, tt),
+              λ w t. (unless_terminal 89 is_self is_assign w (terminal_is 89 w) (λ e. rw e refl) t, tt),
               (
-                λ w t. (unless_sign 89 is_name is_assign w (sign_is 89 w) (λ e. rw e refl) t, (refl, λ y. tt)),
+                λ w t. (unless_terminal 89 is_name is_assign w (terminal_is 89 w) (λ e. rw e refl) t, (refl, λ y. tt)),
                 (
-                  λ w t. (unless_sign 89 is_ivar is_assign w (sign_is 89 w) (λ e. rw e refl) t, tt),
+                  λ w t. (unless_terminal 89 is_ivar is_assign w (terminal_is 89 w) (λ e. rw e refl) t, tt),
                   (
                     (refl, λ y. tt),
                     each_append (λ p. Avoids no_assign p) (e.opening here.levels (e.array_from here)) _
                         (each_opening (λ p. Avoids no_assign p) here.levels (e.array_from here)
                         (λ n. λ w t. (
-                          unless_sign 89 is_open_bracket is_assign w (sign_is 89 w) (λ e. rw e refl) t,
+                          unless_terminal 89 is_open_bracket is_assign w (terminal_is 89 w) (λ e. rw e refl) t,
                           (
                             refl,
                             λ y. λ w t. (
-                              unless_sign 89 is_close_bracket is_assign w (sign_is 89 w)
+                              unless_terminal 89 is_close_bracket is_assign w (terminal_is 89 w)
                                   (λ e. rw e refl) t,
                               tt,
                             ),
@@ -176,11 +180,11 @@ clean_forms (primary here) h = (
                         (each_append (λ p. Avoids no_assign p) (e.opening here.levels (e.hash_from here)) _
                         (each_opening (λ p. Avoids no_assign p) here.levels (e.hash_from here)
                         (λ n. λ w t. (
-                          unless_sign 89 is_open_brace is_assign w (sign_is 89 w) (λ e. rw e refl) t,
+                          unless_terminal 89 is_open_brace is_assign w (terminal_is 89 w) (λ e. rw e refl) t,
                           (
                             refl,
                             λ y. λ w t. (
-                              unless_sign 89 is_close_brace is_assign w (sign_is 89 w)
+                              unless_terminal 89 is_close_brace is_assign w (terminal_is 89 w)
                                   (λ e. rw e refl) t,
                               tt,
                             ),
@@ -188,11 +192,11 @@ clean_forms (primary here) h = (
                         )))
                         (each_opening (λ p. Avoids no_assign p) here.levels (e.group_from here)
                         (λ n. λ w t. (
-                          unless_sign 89 is_open_paren is_assign w (sign_is 89 w) (λ e. rw e refl) t,
+                          unless_terminal 89 is_open_paren is_assign w (terminal_is 89 w) (λ e. rw e refl) t,
                           (
                             refl,
                             λ y. λ w t. (
-                              unless_sign 89 is_close_paren is_assign w (sign_is 89 w)
+                              unless_terminal 89 is_close_paren is_assign w (terminal_is 89 w)
                                   (λ e. rw e refl) t,
                               tt,
                             ),
@@ -212,36 +216,37 @@ clean_forms (name_rest here name) h = each_append (λ p. Avoids no_assign p)
     (e.opening here.levels (e.call_from here name)) _
     (each_opening (λ p. Avoids no_assign p) here.levels (e.call_from here name)
     (λ n. λ w t. (
-      unless_sign 89 is_tight_paren is_assign w (sign_is 89 w) (λ e. rw e refl) t,
-      (refl, λ y. λ w t. (unless_sign 89 is_close_paren is_assign w (sign_is 89 w) (λ e. rw e refl) t, tt)),
+      unless_terminal 89 is_tight_paren is_assign w (terminal_is 89 w) (λ e. rw e refl) t,
+      (refl, λ y. λ w t. (unless_terminal 89 is_close_paren is_assign w (terminal_is 89 w) (λ e. rw e refl) t, tt)),
     ))) ((tt, tt))
 clean_forms (perhaps_arguments here) h = each_append (λ p. Avoids no_assign p)
     (e.opening here.levels (e.arguments_from here)) _
     (each_opening (λ p. Avoids no_assign p) here.levels (e.arguments_from here)
     (λ n. λ w t. (
-      unless_sign 89 is_tight_paren is_assign w (sign_is 89 w) (λ e. rw e refl) t,
-      (refl, λ y. λ w t. (unless_sign 89 is_close_paren is_assign w (sign_is 89 w) (λ e. rw e refl) t, tt)),
+      unless_terminal 89 is_tight_paren is_assign w (terminal_is 89 w) (λ e. rw e refl) t,
+      (refl, λ y. λ w t. (unless_terminal 89 is_close_paren is_assign w (terminal_is 89 w) (λ e. rw e refl) t, tt)),
     ))) ((tt, tt))
 clean_forms (members here xs) h = ((refl, λ y. (refl, λ z. tt)), (tt, tt))
 clean_forms (pairs here xs) h = ((refl, λ y. (refl, λ z. tt)), (tt, tt))
 clean_forms (more_members here xs) h =
-    (λ w t. (unless_sign 89 is_comma is_assign w (sign_is 89 w) (λ e. rw e refl) t, (refl, λ y. tt)), (tt, tt))
+    (λ w t. (unless_terminal 89 is_comma is_assign w (terminal_is 89 w) (λ e. rw e refl) t, (refl, λ y. tt)), (tt, tt))
 clean_forms (more_pairs here xs) h =
-    (λ w t. (unless_sign 89 is_comma is_assign w (sign_is 89 w) (λ e. rw e refl) t, (refl, λ y. tt)), (tt, tt))
+    (λ w t. (unless_terminal 89 is_comma is_assign w (terminal_is 89 w) (λ e. rw e refl) t, (refl, λ y. tt)), (tt, tt))
 clean_forms (pair here) h = (
-  λ w t. (unless_sign 89 is_label is_assign w (sign_is 89 w) (λ e. rw e refl) t, (refl, λ y. tt)),
-  ((refl, λ x. λ w t. (unless_sign 89 is_arrow is_assign w (sign_is 89 w) (λ e. rw e refl) t, (refl, λ y. tt))), tt),
+  λ w t. (unless_terminal 89 is_label is_assign w (terminal_is 89 w) (λ e. rw e refl) t, (refl, λ y. tt)),
+  ((refl, λ x. λ w t. (unless_terminal 89 is_arrow is_assign w (terminal_is 89 w) (λ e. rw e refl) t,
+      (refl, λ y. tt))), tt),
 )
 clean_forms (text_parts here double parts) h = (
-  λ w t. (unless_sign 89 is_text_piece is_assign w (sign_is 89 w) (λ e. rw e refl) t, (refl, λ y. tt)),
+  λ w t. (unless_terminal 89 is_text_piece is_assign w (terminal_is 89 w) (λ e. rw e refl) t, (refl, λ y. tt)),
   each_append (λ p. Avoids no_assign p) (e.opening here.levels (e.inside_from here double parts)) _
       (each_opening (λ p. Avoids no_assign p) here.levels (e.inside_from here double parts)
       (λ n. λ w t. (
-        unless_sign 89 is_inside_open is_assign w (sign_is 89 w) (λ e. rw e refl) t,
+        unless_terminal 89 is_inside_open is_assign w (terminal_is 89 w) (λ e. rw e refl) t,
         (
           refl,
           λ y. λ w t. (
-            unless_sign 89 is_inside_close is_assign w (sign_is 89 w) (λ e. rw e refl) t,
+            unless_terminal 89 is_inside_close is_assign w (terminal_is 89 w) (λ e. rw e refl) t,
             (refl, λ z. tt),
           ),
         ),
@@ -249,26 +254,26 @@ clean_forms (text_parts here double parts) h = (
 )
 clean_forms (constant ending) h = (
   λ w t. (
-    unless_sign 89 is_path is_assign w (sign_is 89 w) (λ e. rw e refl) t,
+    unless_terminal 89 is_path is_assign w (terminal_is 89 w) (λ e. rw e refl) t,
     λ w t.
-        (unless_sign 89 is_const is_assign w (sign_is 89 w) (λ e. rw e refl) t, (refl, λ y. tt)),
+        (unless_terminal 89 is_const is_assign w (terminal_is 89 w) (λ e. rw e refl) t, (refl, λ y. tt)),
   ),
-  (λ w t. (unless_sign 89 is_const is_assign w (sign_is 89 w) (λ e. rw e refl) t, (refl, λ y. tt)), tt),
+  (λ w t. (unless_terminal 89 is_const is_assign w (terminal_is 89 w) (λ e. rw e refl) t, (refl, λ y. tt)), tt),
 )
 clean_forms (path_rest true None names) h = (
   λ w t. (
-    unless_sign 89 is_path is_assign w (sign_is 89 w) (λ e. rw e refl) t,
+    unless_terminal 89 is_path is_assign w (terminal_is 89 w) (λ e. rw e refl) t,
     λ w t.
-        (unless_sign 89 is_const is_assign w (sign_is 89 w) (λ e. rw e refl) t, (refl, λ y. tt)),
+        (unless_terminal 89 is_const is_assign w (terminal_is 89 w) (λ e. rw e refl) t, (refl, λ y. tt)),
   ),
   (tt, tt),
 )
 clean_forms (path_rest false None names) h = (tt, tt)
 clean_forms (path_rest true (Some m) names) h = (
   λ w t. (
-    unless_sign 89 is_path is_assign w (sign_is 89 w) (λ e. rw e refl) t,
+    unless_terminal 89 is_path is_assign w (terminal_is 89 w) (λ e. rw e refl) t,
     λ w t.
-        (unless_sign 89 is_const is_assign w (sign_is 89 w) (λ e. rw e refl) t, (refl, λ y. tt)),
+        (unless_terminal 89 is_const is_assign w (terminal_is 89 w) (λ e. rw e refl) t, (refl, λ y. tt)),
   ),
   (tt, tt),
 )
@@ -310,8 +315,8 @@ next_assign w (v ∷ others) rest h k = h.1.0
 chosen_expression : (here : Around) (w : Word) (b : Option Word) → starts_expression w ≡ true →
     next_is is_assign b ≡ false → pick (simple_statement here) (Some w) b ≡ take (s.evaluating here)
 chosen_expression here w b h k =
-    let r = unless_sign 10 starts_expression is_return w (sign_is 10 w) (λ e. rw e refl) h in
-    let q = unless_sign 15 starts_expression is_raise w (sign_is 15 w) (λ e. rw e refl) h in
+    let r = unless_terminal 10 starts_expression is_return w (terminal_is 10 w) (λ e. rw e refl) h in
+    let q = unless_terminal 15 starts_expression is_raise w (terminal_is 15 w) (λ e. rw e refl) h in
     rw (r, q, k, and_no (is_variable w), and_no (is_ivar w)) refl
   where
     and_no : (a : Bool) → (a && false) ≡ false

@@ -10,8 +10,8 @@ use Rattle.descent.proofs.Lists.{same_others}
 use Rattle.descent.proofs.Complete.{extend, alone}
 use Rattle.ruby_grammar.specs.Words.{Word}
 use Rattle.ruby_grammar.specs.Marks.{Mark}
-use Rattle.ruby_grammar.specs.Signs.{units, products, sums, comparisons, equalities, conjunctions, disjunctions}
-use Rattle.ruby_grammar.specs.Signs.{is_variable, is_ivar, is_assign, is_return, is_raise, is_path}
+use Rattle.ruby_grammar.specs.Terminals.{units, products, sums, comparisons, equalities, conjunctions, disjunctions}
+use Rattle.ruby_grammar.specs.Terminals.{is_variable, is_ivar, is_assign, is_return, is_raise, is_path}
 use Rattle.ruby_grammar.specs.Rules.{ruby, Val, Name, Sort, Rule, Around, Scope, a_statement, some_names, file}
 use Rattle.ruby_grammar.specs.Rules.{definitions, more_definitions, definition, path_rest, parent, constant, heading}
 use Rattle.ruby_grammar.specs.Rules.{PathOpening, opened_path}

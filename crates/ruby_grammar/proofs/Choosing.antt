@@ -11,14 +11,20 @@ use Rattle.descent.proofs.Following.{Fitting}
 use Rattle.descent.proofs.Starts.{starts, Starts}
 use Rattle.ruby_grammar.specs.Words.{Word}
 use Rattle.ruby_grammar.specs.Marks.{Mark}
-use Rattle.ruby_grammar.specs.Signs.{units, products, sums, comparisons, equalities, conjunctions, disjunctions, sign}
-use Rattle.ruby_grammar.specs.Signs.{is_operator, is_end, is_if, is_elsif, is_else, is_unless, is_then, is_line, is_ask}
-use Rattle.ruby_grammar.specs.Signs.{is_path, is_dot, is_comma, is_const, is_ivar, is_variable, is_name, is_label}
-use Rattle.ruby_grammar.specs.Signs.{is_close_paren, is_close_bracket, is_close_brace, is_text_close, is_tight_paren}
-use Rattle.ruby_grammar.specs.Signs.{is_tight_bracket, is_open_bracket, is_open_paren, is_return, is_raise, is_include}
-use Rattle.ruby_grammar.specs.Signs.{is_attr_reader, is_def, is_module, is_class, is_self, is_less, is_not, is_minus}
-use Rattle.ruby_grammar.specs.Signs.{is_int, is_text_open, is_text_piece, is_inside_open, is_open_brace, is_sym, is_nil}
-use Rattle.ruby_grammar.specs.Signs.{is_true, is_false}
+use Rattle.ruby_grammar.specs.Terminals.{units, products, sums, comparisons, equalities, conjunctions, disjunctions}
+use Rattle.ruby_grammar.specs.Terminals.{terminal}
+use Rattle.ruby_grammar.specs.Terminals.{is_operator, is_end, is_if, is_elsif, is_else, is_unless, is_then, is_line}
+use Rattle.ruby_grammar.specs.Terminals.{is_ask}
+use Rattle.ruby_grammar.specs.Terminals.{is_path, is_dot, is_comma, is_const, is_ivar, is_variable, is_name, is_label}
+use Rattle.ruby_grammar.specs.Terminals.{is_close_paren, is_close_bracket, is_close_brace, is_text_close}
+use Rattle.ruby_grammar.specs.Terminals.{is_tight_paren}
+use Rattle.ruby_grammar.specs.Terminals.{is_tight_bracket, is_open_bracket, is_open_paren, is_return, is_raise}
+use Rattle.ruby_grammar.specs.Terminals.{is_include}
+use Rattle.ruby_grammar.specs.Terminals.{is_attr_reader, is_def, is_module, is_class, is_self, is_less, is_not}
+use Rattle.ruby_grammar.specs.Terminals.{is_minus}
+use Rattle.ruby_grammar.specs.Terminals.{is_int, is_text_open, is_text_piece, is_inside_open, is_open_brace, is_sym}
+use Rattle.ruby_grammar.specs.Terminals.{is_nil}
+use Rattle.ruby_grammar.specs.Terminals.{is_true, is_false}
 use Rattle.ruby_grammar.specs.Rules.{ruby, Val, Sort, Rule, Path, Body, Around, Scope, Block, a_tree, a_def}
 use Rattle.ruby_grammar.specs.Rules.{a_statement, file, definitions, more_definitions, definition, path_rest, parent}
 use Rattle.ruby_grammar.specs.Rules.{opened_path}
@@ -35,10 +41,10 @@ use Rattle.ruby_grammar.specs.Follow.{goes_on_postfix, goes_on, goes_on_expressi
 use Rattle.ruby_grammar.specs.Expressions as e
 use Rattle.ruby_grammar.specs.Statements as s
 use Rattle.ruby_grammar.specs.Definitions as d
-use Rattle.ruby_grammar.proofs.Tools.{Each, each_among, each_append, sign_is, and_true, not_true}
+use Rattle.ruby_grammar.proofs.Tools.{Each, each_among, each_append, terminal_is, and_true, not_true}
 use Rattle.ruby_grammar.proofs.First.{ruby_firsts, first_of_rule, is_solid, starts_law, starts_simple, starts_primary}
 use Rattle.ruby_grammar.proofs.Passing.{no_keyword}
-use Rattle.ruby_grammar.proofs.Fits.{gv, tk, rl, pr, either, block_cases, statement_cases, unless_sign}
+use Rattle.ruby_grammar.proofs.Fits.{gv, tk, rl, pr, either, block_cases, statement_cases, unless_terminal}
 use Rattle.ruby_grammar.proofs.Fits.{simple_not_start}
 
 abbrev Picked : {t : Sort} → Rule t → Prod ruby t → Type 0
@@ -89,18 +95,18 @@ each_level P (suc n) f h = (h n refl, tt)
 deepen_is : {t : Sort} (levels n : ℕ) (f : ℕ → Prod ruby t) → levels ≡ suc n → deepen levels f ≡ take (f n)
 deepen_is levels n f e = subst (λ l. deepen l f ≡ take (f n)) (sym e) refl
 
-end_no_definition : (path : Path) (w : Word) → sign w ≡ 4 → starts_definition path w ≡ false
+end_no_definition : (path : Path) (w : Word) → terminal w ≡ 4 → starts_definition path w ≡ false
 end_no_definition [] w e = rw e refl
 end_no_definition (n ∷ ns) w e = rw e refl
 
 no_definition : (here : Body) (a b : Option Word) (ds : List Def) → ends_or is_end a ≡ true →
     pick (definitions here ds) a b ≡ take (give ds)
 no_definition here None b ds h = refl
-no_definition here (Some w) b ds h = rw (end_no_definition here.path w (sign_is 4 w h)) refl
+no_definition here (Some w) b ds h = rw (end_no_definition here.path w (terminal_is 4 w h)) refl
 
 definition_no_line : (path : Path) (w : Word) → starts_definition path w ≡ true → is_line w ≡ false
-definition_no_line [] w h = unless_sign 50 (starts_definition []) is_line w (sign_is 50 w) (λ e. rw e refl) h
-definition_no_line (n ∷ ns) w h = unless_sign 50 (starts_definition (n ∷ ns)) is_line w (sign_is 50 w)
+definition_no_line [] w h = unless_terminal 50 (starts_definition []) is_line w (terminal_is 50 w) (λ e. rw e refl) h
+definition_no_line (n ∷ ns) w h = unless_terminal 50 (starts_definition (n ∷ ns)) is_line w (terminal_is 50 w)
     (λ e. rw e refl) h
 
 -- where the next word isn't such
@@ -133,7 +139,7 @@ file_picked levels anywhere = by_fit (file levels anywhere) (d.file_from levels 
 no_line : (here : Body) (ds : List Def) (a b : Option Word) → ends_or is_end a ≡ true →
     pick (more_definitions here ds) a b ≡ take (give ds)
 no_line here ds None b h = refl
-no_line here ds (Some w) b h = rw (sign_is 4 w h) refl
+no_line here ds (Some w) b h = rw (terminal_is 4 w h) refl
 
 -- a member begins with its own word
 record Member (top : Bool) (here : Body) (p : Prod ruby a_def) : Type 0 where
@@ -149,26 +155,26 @@ member_is false here = (
   record {
     test = is_include;
     begins = λ w t. t;
-    chosen = λ w t. rw (sign_is 16 w t) refl;
+    chosen = λ w t. rw (terminal_is 16 w t) refl;
     behind = λ w b t.
-        rw (sign_is 16 w t) refl;
+        rw (terminal_is 16 w t) refl;
   },
   (
     record {
       test = is_attr_reader;
       begins = λ w t. t;
-      chosen = λ w t. rw (sign_is 17 w t) refl;
+      chosen = λ w t. rw (terminal_is 17 w t) refl;
       behind = λ w b t.
-          rw (sign_is 17 w t) refl;
+          rw (terminal_is 17 w t) refl;
     },
     each_level (Member false here) here.levels (d.method_from here)
         (λ n q. record {
           test = is_def;
           begins = λ w t. t;
           chosen = λ w t.
-              rw (sign_is 3 w t) (deepen_is here.levels n (d.method_from here) q);
+              rw (terminal_is 3 w t) (deepen_is here.levels n (d.method_from here) q);
           behind = λ w b t.
-              rw (sign_is 3 w t) refl;
+              rw (terminal_is 3 w t) refl;
         }),
   ),
 )
@@ -185,8 +191,8 @@ member_picked here p m ts x rest a h =
 
 simple_no_if : (w : Word) → starts_simple w ≡ true → (is_if w ≡ false) × (is_unless w ≡ false)
 simple_no_if w h = (
-  unless_sign 5 starts_simple is_if w (sign_is 5 w) (λ e. rw e refl) h,
-  unless_sign 8 starts_simple is_unless w (sign_is 8 w) (λ e. rw e refl) h,
+  unless_terminal 5 starts_simple is_if w (terminal_is 5 w) (λ e. rw e refl) h,
+  unless_terminal 8 starts_simple is_unless w (terminal_is 8 w) (λ e. rw e refl) h,
 )
 
 two_of : (a b : Bool) → (a || b) ≡ false → (a ≡ false) × (b ≡ false)
@@ -194,7 +200,7 @@ two_of true b h = cc
 two_of false b h = (refl, h)
 
 tight_no_dot : (w : Word) → is_tight_bracket w ≡ true → is_dot w ≡ false
-tight_no_dot w t = rw (sign_is 93 w (and_true (is_open_bracket w) w.tight t).0) refl
+tight_no_dot w t = rw (terminal_is 93 w (and_true (is_open_bracket w) w.tight t).0) refl
 
 postfix_ends : (w : Word) → goes_on_postfix w ≡ false → (is_dot w ≡ false) × (is_tight_bracket w ≡ false)
 postfix_ends w h =
@@ -203,10 +209,10 @@ postfix_ends w h =
 
 constant_picked : (here : Scope) → Picked (primary here) e.constant_alone
 constant_picked here = cr (primary here) (constant None) _ refl
-    (λ w b h. either (is_path w) (is_const w) h (λ u. rw (sign_is 86 w u) refl) (λ u. rw (sign_is 51 w u) refl))
+    (λ w b h. either (is_path w) (is_const w) h (λ u. rw (terminal_is 86 w u) refl) (λ u. rw (terminal_is 51 w u) refl))
 
 expression_no_label : (w : Word) → starts_expression w ≡ true → is_label w ≡ false
-expression_no_label w h = unless_sign 53 starts_expression is_label w (sign_is 53 w) (λ e. rw e refl) h
+expression_no_label w h = unless_terminal 53 starts_expression is_label w (terminal_is 53 w) (λ e. rw e refl) h
 
 abbrev Arms : ℕ → Bool → Bool → List (Expr × List Stmt) → Block → Prod ruby a_statement → Type 0
 Arms levels sets may_elsif arms b p = Picked (arms_rest levels sets may_elsif arms b) p
@@ -225,9 +231,9 @@ elsif_is true levels sets arms b = (
   record {
     test = is_elsif;
     begins = λ w t. t;
-    chosen = λ w t. rw (sign_is 6 w t) refl;
+    chosen = λ w t. rw (terminal_is 6 w t) refl;
     no_end = λ w t.
-        rw (sign_is 6 w t) refl;
+        rw (terminal_is 6 w t) refl;
   },
   tt,
 )
@@ -239,9 +245,9 @@ branch_is true levels sets may_elsif arms b = (
   record {
     test = is_else;
     begins = λ w t. t;
-    chosen = λ w t. rw (sign_is 7 w t) refl;
+    chosen = λ w t. rw (terminal_is 7 w t) refl;
     no_end = λ w t.
-        rw (sign_is 7 w t) refl;
+        rw (terminal_is 7 w t) refl;
   },
   elsif_is may_elsif levels sets arms b,
 )
@@ -263,19 +269,19 @@ arms_picked levels sets may_elsif arms b = (
       (branch_is b.closed levels sets may_elsif arms b),
 )
 
-primary_no_sign : (w : Word) → starts_primary w ≡ true → (is_not w ≡ false) × (is_minus w ≡ false)
-primary_no_sign w h = (
-  unless_sign 72 starts_primary is_not w (sign_is 72 w) (λ e. rw e refl) h,
-  unless_sign 80 starts_primary is_minus w (sign_is 80 w) (λ e. rw e refl) h,
+primary_no_terminal : (w : Word) → starts_primary w ≡ true → (is_not w ≡ false) × (is_minus w ≡ false)
+primary_no_terminal w h = (
+  unless_terminal 72 starts_primary is_not w (terminal_is 72 w) (λ e. rw e refl) h,
+  unless_terminal 80 starts_primary is_minus w (terminal_is 80 w) (λ e. rw e refl) h,
 )
 
 postfix_picked : (here : Scope) → Picked (unary here) (only (postfix here))
 postfix_picked here = cr (unary here) (postfix here) _ refl
-    (λ w b h. rw ((primary_no_sign w h).0, (primary_no_sign w h).1) refl)
+    (λ w b h. rw ((primary_no_terminal w h).0, (primary_no_terminal w h).1) refl)
 
 set_picked : (here : Around) → Picked (simple_statement here) (s.setting here)
 set_picked here ts x rest (is_word {w = w} t (is_word {w = v} u a)) h =
-    no_keyword here w (Some v) (inl (sign_is 0 w (and_true (is_name w) _ t).0)) ∙ rw (t, u) refl
+    no_keyword here w (Some v) (inl (terminal_is 0 w (and_true (is_name w) _ t).0)) ∙ rw (t, u) refl
 
 ivar_picked : (sets : Bool) (here : Around) → here.sets ≡ sets →
     Each (Picked (simple_statement here)) (s.where_it_may sets (s.setting_ivar here))
@@ -283,8 +289,8 @@ ivar_picked false here e = tt
 ivar_picked true here e = (one, tt)
   where
     one : Picked (simple_statement here) (s.setting_ivar here)
-    one ts x rest (is_word {w = w} t (is_word {w = v} u a)) h = no_keyword here w (Some v) (inr (sign_is 52 w t))
-        ∙ rw (sign_is 52 w t, u, e) refl
+    one ts x rest (is_word {w = w} t (is_word {w = v} u a)) h = no_keyword here w (Some v) (inr (terminal_is 52 w t))
+        ∙ rw (terminal_is 52 w t, u, e) refl
 
 -- An expression is chosen where no `=` follows its first word.
 abbrev pub EvaluatingChosen : Type 0
@@ -293,9 +299,9 @@ EvaluatingChosen = (here : Around) → Picked (simple_statement here) (s.evaluat
 simple_picked : EvaluatingChosen → (here : Around) →
     Each (Picked (simple_statement here)) (s.simple_statement_forms here)
 simple_picked evaluates here = (
-  ct (simple_statement here) is_return _ (λ w b t. rw (sign_is 10 w t) refl),
+  ct (simple_statement here) is_return _ (λ w b t. rw (terminal_is 10 w t) refl),
   (
-    ct (simple_statement here) is_raise _ (λ w b t. rw (sign_is 15 w t) refl),
+    ct (simple_statement here) is_raise _ (λ w b t. rw (terminal_is 15 w t) refl),
     (
       set_picked here,
       each_append (Picked (simple_statement here)) (s.where_it_may here.sets (s.setting_ivar here)) _
@@ -316,15 +322,15 @@ picked_forms evaluates _ (more_definitions here ds) = (
   (cg (more_definitions here ds) ds (λ a b h. no_line here ds a b h), tt),
 )
 picked_forms evaluates _ (definition here) = each_append (Picked (definition here)) (d.top_forms here) _ (
-  ct (definition here) is_const _ (λ w b t. rw (sign_is 51 w t) refl),
+  ct (definition here) is_const _ (λ w b t. rw (terminal_is 51 w t) refl),
   each_append (Picked (definition here))
       (e.opening here.levels (d.module_from here)) _
       (each_level (Picked (definition here)) here.levels (d.module_from here)
       (λ n q. ct (definition here) is_module _
-      (λ w b t. rw (sign_is 1 w t) (deepen_is here.levels n (d.module_from here) q))))
+      (λ w b t. rw (terminal_is 1 w t) (deepen_is here.levels n (d.module_from here) q))))
       (each_level (Picked (definition here)) here.levels (d.class_from here)
       (λ n q. ct (definition here) is_class _
-      (λ w b t. rw (sign_is 2 w t) (deepen_is here.levels n (d.class_from here) q)))),
+      (λ w b t. rw (terminal_is 2 w t) (deepen_is here.levels n (d.class_from here) q)))),
 )
     (each_map (Member (d.at_top here.path) here) (Picked (definition here))
     (d.member_forms (d.at_top here.path) here) (member_picked here) (member_is (d.at_top here.path) here))
@@ -356,32 +362,32 @@ picked_forms evaluates _ (opened_path true how names) = (
 )
 picked_forms evaluates _ (opened_path false how names) = (co (opened_path false how names) _ (λ a b. refl), tt)
 picked_forms evaluates _ (parent path at) = (
-  ct (parent path at) is_less _ (λ w b t. rw (sign_is 75 w t) refl),
-  (ct (parent path at) is_line _ (λ w b t. rw (sign_is 50 w t) refl), tt),
+  ct (parent path at) is_less _ (λ w b t. rw (terminal_is 75 w t) refl),
+  (ct (parent path at) is_line _ (λ w b t. rw (terminal_is 50 w t) refl), tt),
 )
 picked_forms evaluates _ (constant ending) = (
-  ct (constant ending) is_path _ (λ w b t. rw (sign_is 86 w t) refl),
-  (ct (constant ending) is_const _ (λ w b t. rw (sign_is 51 w t) refl), tt),
+  ct (constant ending) is_path _ (λ w b t. rw (terminal_is 86 w t) refl),
+  (ct (constant ending) is_const _ (λ w b t. rw (terminal_is 51 w t) refl), tt),
 )
 picked_forms evaluates _ (heading path) = (
-  ct (heading path) is_self _ (λ w b t. rw (sign_is 11 w t) refl),
-  (ct (heading path) is_name _ (λ w b t. rw (sign_is 0 w t) refl), tt),
+  ct (heading path) is_self _ (λ w b t. rw (terminal_is 11 w t) refl),
+  (ct (heading path) is_name _ (λ w b t. rw (terminal_is 0 w t) refl), tt),
 )
 picked_forms evaluates _ (parameter_list levels) = (
-  ct (parameter_list levels) is_line _ (λ w b t. rw (sign_is 50 w t) refl),
+  ct (parameter_list levels) is_line _ (λ w b t. rw (terminal_is 50 w t) refl),
   each_level (Picked (parameter_list levels)) levels d.parameters_from
       (λ n q. ct (parameter_list levels) is_open_paren _
-      (λ w b t. rw (sign_is 91 w t) (deepen_is levels n d.parameters_from q))),
+      (λ w b t. rw (terminal_is 91 w t) (deepen_is levels n d.parameters_from q))),
 )
 picked_forms evaluates _ parameters = (
   ct (parameters) is_variable _ (λ w b t. rw t refl),
-  (cg (parameters) [] (ifs (parameters) (give []) is_close_paren (λ w b t. rw (sign_is 92 w t) refl)), tt),
+  (cg (parameters) [] (ifs (parameters) (give []) is_close_paren (λ w b t. rw (terminal_is 92 w t) refl)), tt),
 )
 picked_forms evaluates _ (more_parameters names) = (
   ct (more_parameters names) is_comma _ (λ w b t. rw t refl),
   (
     cg (more_parameters names) names
-        (ifs (more_parameters names) (give names) is_close_paren (λ w b t. rw (sign_is 92 w t) refl)),
+        (ifs (more_parameters names) (give names) is_close_paren (λ w b t. rw (terminal_is 92 w t) refl)),
     tt,
   ),
 )
@@ -419,16 +425,17 @@ picked_forms evaluates _ (statement here) = (
   each_append (Picked (statement here))
       (e.opening here.levels (s.if_from here)) _
       (each_level (Picked (statement here)) here.levels (s.if_from here)
-      (λ n q. ct (statement here) is_if _ (λ w b t. rw (sign_is 5 w t) (deepen_is here.levels n (s.if_from here) q))))
+      (λ n q. ct (statement here) is_if _
+          (λ w b t. rw (terminal_is 5 w t) (deepen_is here.levels n (s.if_from here) q))))
       (each_level (Picked (statement here)) here.levels (s.unless_from here)
       (λ n q. ct (statement here) is_unless _
-      (λ w b t. rw (sign_is 8 w t) (deepen_is here.levels n (s.unless_from here) q)))),
+      (λ w b t. rw (terminal_is 8 w t) (deepen_is here.levels n (s.unless_from here) q)))),
 )
 picked_forms evaluates _ (simple_statement here) = simple_picked evaluates here
 picked_forms evaluates _ (condition_behind levels t) = (
-  ct (condition_behind levels t) is_if _ (λ w b t. rw (sign_is 5 w t) refl),
+  ct (condition_behind levels t) is_if _ (λ w b t. rw (terminal_is 5 w t) refl),
   (
-    ct (condition_behind levels t) is_unless _ (λ w b t. rw (sign_is 8 w t) refl),
+    ct (condition_behind levels t) is_unless _ (λ w b t. rw (terminal_is 8 w t) refl),
     (
       cg (condition_behind levels t) t
           (ifs (condition_behind levels t) (give t) ends_statement
@@ -439,8 +446,8 @@ picked_forms evaluates _ (condition_behind levels t) = (
   ),
 )
 picked_forms evaluates _ then_or_line = (
-  ct (then_or_line) is_then _ (λ w b t. rw (sign_is 9 w t) refl),
-  (ct (then_or_line) is_line _ (λ w b t. rw (sign_is 50 w t) refl), tt),
+  ct (then_or_line) is_then _ (λ w b t. rw (terminal_is 9 w t) refl),
+  (ct (then_or_line) is_line _ (λ w b t. rw (terminal_is 50 w t) refl), tt),
 )
 picked_forms evaluates _ perhaps_line = (
   ct (perhaps_line) is_line _ (λ w b t. rw t refl),
@@ -529,14 +536,14 @@ picked_forms evaluates _ (more_operators disjunctions here x) = (
 )
 picked_forms evaluates _ (unary here) = each_append (Picked (unary here)) (e.opening here.levels (e.not_from here)) _
     (each_level (Picked (unary here)) here.levels (e.not_from here)
-    (λ n q. ct (unary here) is_not _ (λ w b t. rw (sign_is 72 w t) (deepen_is here.levels n (e.not_from here) q))))
+    (λ n q. ct (unary here) is_not _ (λ w b t. rw (terminal_is 72 w t) (deepen_is here.levels n (e.not_from here) q))))
     (each_append (Picked (unary here)) (e.opening here.levels (e.minus_from here)) _
     (each_level (Picked (unary here)) here.levels (e.minus_from here)
     (λ n q. ct (unary here) is_minus _
-    (λ w b t. rw (sign_is 80 w t) (deepen_is here.levels n (e.minus_from here) q)))) ((postfix_picked here, tt)))
+    (λ w b t. rw (terminal_is 80 w t) (deepen_is here.levels n (e.minus_from here) q)))) ((postfix_picked here, tt)))
 picked_forms evaluates _ (postfix here) = (co (postfix here) _ (λ a b. refl), tt)
 picked_forms evaluates _ (more_postfix here x) = (
-  ct (more_postfix here x) is_dot _ (λ w b t. rw (sign_is 87 w t) refl),
+  ct (more_postfix here x) is_dot _ (λ w b t. rw (terminal_is 87 w t) refl),
   each_append (Picked (more_postfix here x)) (e.opening here.levels (e.index_from here x)) _
       (each_level (Picked (more_postfix here x)) here.levels (e.index_from here x)
       (λ n q. ct (more_postfix here x) is_tight_bracket _
@@ -549,36 +556,36 @@ picked_forms evaluates _ (more_postfix here x) = (
       )),
 )
 picked_forms evaluates _ (primary here) = (
-  ct (primary here) is_int _ (λ w b t. rw (sign_is 55 w t) refl),
+  ct (primary here) is_int _ (λ w b t. rw (terminal_is 55 w t) refl),
   (
-    ct (primary here) is_text_open _ (λ w b t. rw (sign_is 56 w t) refl),
+    ct (primary here) is_text_open _ (λ w b t. rw (terminal_is 56 w t) refl),
     (
-      ct (primary here) is_sym _ (λ w b t. rw (sign_is 54 w t) refl),
+      ct (primary here) is_sym _ (λ w b t. rw (terminal_is 54 w t) refl),
       (
-        ct (primary here) is_nil _ (λ w b t. rw (sign_is 12 w t) refl),
+        ct (primary here) is_nil _ (λ w b t. rw (terminal_is 12 w t) refl),
         (
-          ct (primary here) is_true _ (λ w b t. rw (sign_is 13 w t) refl),
+          ct (primary here) is_true _ (λ w b t. rw (terminal_is 13 w t) refl),
           (
-            ct (primary here) is_false _ (λ w b t. rw (sign_is 14 w t) refl),
+            ct (primary here) is_false _ (λ w b t. rw (terminal_is 14 w t) refl),
             (
-              ct (primary here) is_self _ (λ w b t. rw (sign_is 11 w t) refl),
+              ct (primary here) is_self _ (λ w b t. rw (terminal_is 11 w t) refl),
               (
-                ct (primary here) is_name _ (λ w b t. rw (sign_is 0 w t) refl),
+                ct (primary here) is_name _ (λ w b t. rw (terminal_is 0 w t) refl),
                 (
-                  ct (primary here) is_ivar _ (λ w b t. rw (sign_is 52 w t) refl),
+                  ct (primary here) is_ivar _ (λ w b t. rw (terminal_is 52 w t) refl),
                   (
                     constant_picked here,
                     each_append (Picked (primary here)) (e.opening here.levels (e.array_from here)) _
                         (each_level (Picked (primary here)) here.levels (e.array_from here)
                         (λ n q. ct (primary here) is_open_bracket _
-                        (λ w b t. rw (sign_is 93 w t) (deepen_is here.levels n (e.array_from here) q))))
+                        (λ w b t. rw (terminal_is 93 w t) (deepen_is here.levels n (e.array_from here) q))))
                         (each_append (Picked (primary here)) (e.opening here.levels (e.hash_from here)) _
                         (each_level (Picked (primary here)) here.levels (e.hash_from here)
                         (λ n q. ct (primary here) is_open_brace _
-                        (λ w b t. rw (sign_is 95 w t) (deepen_is here.levels n (e.hash_from here) q))))
+                        (λ w b t. rw (terminal_is 95 w t) (deepen_is here.levels n (e.hash_from here) q))))
                         (each_level (Picked (primary here)) here.levels (e.group_from here)
                         (λ n q. ct (primary here) is_open_paren _
-                        (λ w b t. rw (sign_is 91 w t) (deepen_is here.levels n (e.group_from here) q))))),
+                        (λ w b t. rw (terminal_is 91 w t) (deepen_is here.levels n (e.group_from here) q))))),
                   ),
                 ),
               ),
@@ -615,8 +622,8 @@ picked_forms evaluates _ (members here xs) = (
   (
     cg (members here xs) xs
         (ifs (members here xs) (give xs) ends_members
-        (λ w b h. either (is_close_paren w) (is_close_bracket w) h (λ u. rw (sign_is 92 w u) refl)
-        (λ u. rw (sign_is 94 w u) refl))),
+        (λ w b h. either (is_close_paren w) (is_close_bracket w) h (λ u. rw (terminal_is 92 w u) refl)
+        (λ u. rw (terminal_is 94 w u) refl))),
     tt,
   ),
 )
@@ -625,20 +632,20 @@ picked_forms evaluates _ (more_members here xs) = (
   (
     cg (more_members here xs) xs
         (ifs (more_members here xs) (give xs) ends_members
-        (λ w b h. either (is_close_paren w) (is_close_bracket w) h (λ u. rw (sign_is 92 w u) refl)
-        (λ u. rw (sign_is 94 w u) refl))),
+        (λ w b h. either (is_close_paren w) (is_close_bracket w) h (λ u. rw (terminal_is 92 w u) refl)
+        (λ u. rw (terminal_is 94 w u) refl))),
     tt,
   ),
 )
 picked_forms evaluates _ (pairs here ps) = (
   cr (pairs here ps) (pair here) _ refl (λ w b t. rw t refl),
-  (cg (pairs here ps) ps (ifs (pairs here ps) (give ps) is_close_brace (λ w b t. rw (sign_is 96 w t) refl)), tt),
+  (cg (pairs here ps) ps (ifs (pairs here ps) (give ps) is_close_brace (λ w b t. rw (terminal_is 96 w t) refl)), tt),
 )
 picked_forms evaluates _ (more_pairs here ps) = (
   ct (more_pairs here ps) is_comma _ (λ w b t. rw t refl),
   (
     cg (more_pairs here ps) ps
-        (ifs (more_pairs here ps) (give ps) is_close_brace (λ w b t. rw (sign_is 96 w t) refl)),
+        (ifs (more_pairs here ps) (give ps) is_close_brace (λ w b t. rw (terminal_is 96 w t) refl)),
     tt,
   ),
 )
@@ -647,14 +654,14 @@ picked_forms evaluates _ (pair here) = (
   (cr (pair here) (expression here) _ refl (λ w b h. rw (expression_no_label w h) refl), tt),
 )
 picked_forms evaluates _ (text_parts here double parts) = (
-  ct (text_parts here double parts) is_text_piece _ (λ w b t. rw (sign_is 57 w t) refl),
+  ct (text_parts here double parts) is_text_piece _ (λ w b t. rw (terminal_is 57 w t) refl),
   each_append (Picked (text_parts here double parts)) (e.opening here.levels (e.inside_from here double parts)) _
       (each_level (Picked (text_parts here double parts)) here.levels (e.inside_from here double parts)
       (λ n q. ct (text_parts here double parts) is_inside_open _
-      (λ w b t. rw (sign_is 58 w t) (deepen_is here.levels n (e.inside_from here double parts) q))))
+      (λ w b t. rw (terminal_is 58 w t) (deepen_is here.levels n (e.inside_from here double parts) q))))
       ((
         cg (text_parts here double parts) parts
-            (ifs (text_parts here double parts) (give parts) is_text_close (λ w b t. rw (sign_is 60 w t) refl)),
+            (ifs (text_parts here double parts) (give parts) is_text_close (λ w b t. rw (terminal_is 60 w t) refl)),
         tt,
       )),
 )

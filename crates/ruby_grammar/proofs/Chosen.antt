@@ -6,13 +6,17 @@ use Rattle.descent.specs.Grammar.{Prod, Among, first, later}
 use Rattle.descent.specs.Reading.{Choice, take, too_deep, barred, nothing}
 use Rattle.ruby_grammar.specs.Words.{Word}
 use Rattle.ruby_grammar.specs.Marks.{Mark}
-use Rattle.ruby_grammar.specs.Signs.{Level, units, products, sums, comparisons, equalities, conjunctions, disjunctions}
-use Rattle.ruby_grammar.specs.Signs.{is_operator, is_not, is_minus, is_dot, is_path, is_const, is_comma, is_int}
-use Rattle.ruby_grammar.specs.Signs.{is_text_open, is_text_piece, is_inside_open, is_sym, is_label, is_ivar, is_nil}
-use Rattle.ruby_grammar.specs.Signs.{is_true, is_false, is_self, is_name, is_open_paren, is_open_bracket, is_open_brace}
-use Rattle.ruby_grammar.specs.Signs.{is_tight_paren, is_tight_bracket, is_ask, is_line, is_less, is_module, is_class}
-use Rattle.ruby_grammar.specs.Signs.{is_def, is_include, is_attr_reader, is_variable, is_assign, is_return, is_raise}
-use Rattle.ruby_grammar.specs.Signs.{is_if, is_unless, is_elsif, is_else, is_end, is_then}
+use Rattle.ruby_grammar.specs.Terminals.{Level, units, products, sums, comparisons, equalities, conjunctions}
+use Rattle.ruby_grammar.specs.Terminals.{disjunctions}
+use Rattle.ruby_grammar.specs.Terminals.{is_operator, is_not, is_minus, is_dot, is_path, is_const, is_comma, is_int}
+use Rattle.ruby_grammar.specs.Terminals.{is_text_open, is_text_piece, is_inside_open, is_sym, is_label, is_ivar, is_nil}
+use Rattle.ruby_grammar.specs.Terminals.{is_true, is_false, is_self, is_name, is_open_paren, is_open_bracket}
+use Rattle.ruby_grammar.specs.Terminals.{is_open_brace}
+use Rattle.ruby_grammar.specs.Terminals.{is_tight_paren, is_tight_bracket, is_ask, is_line, is_less, is_module}
+use Rattle.ruby_grammar.specs.Terminals.{is_class}
+use Rattle.ruby_grammar.specs.Terminals.{is_def, is_include, is_attr_reader, is_variable, is_assign, is_return}
+use Rattle.ruby_grammar.specs.Terminals.{is_raise}
+use Rattle.ruby_grammar.specs.Terminals.{is_if, is_unless, is_elsif, is_else, is_end, is_then}
 use Rattle.ruby_grammar.specs.Rules.{ruby, Sort, Rule, Name, Body, Around, Scope, Block, file, definitions}
 use Rattle.ruby_grammar.specs.Rules.{more_definitions, definition, path_rest, parent, constant, heading, parameter_list}
 use Rattle.ruby_grammar.specs.Rules.{PathOpening, opened_path}

@@ -7,7 +7,8 @@ use Rattle.descent.specs.Grammar.{give, Among, first, later, Is, is_given, is_wo
 use Rattle.descent.proofs.Complete.{extend, alone}
 use Rattle.ruby_grammar.specs.Words.{Word}
 use Rattle.ruby_grammar.specs.Marks.{Mark}
-use Rattle.ruby_grammar.specs.Signs.{Level, units, products, sums, comparisons, equalities, conjunctions, disjunctions}
+use Rattle.ruby_grammar.specs.Terminals.{Level, units, products, sums, comparisons, equalities, conjunctions}
+use Rattle.ruby_grammar.specs.Terminals.{disjunctions}
 use Rattle.ruby_grammar.specs.Rules.{ruby, Val, Name, Known, Sort, Rule, Body, Around, Scope, file, definitions}
 use Rattle.ruby_grammar.specs.Rules.{more_definitions, definition, path_rest, parent, constant, heading, parameter_list}
 use Rattle.ruby_grammar.specs.Rules.{PathOpening, opened_path}

@@ -12,7 +12,7 @@ use Rattle.descent.proofs.Lifts.{Kept}
 use Rattle.descent.proofs.Besides.{begins_beside, reads_beside, begins_next}
 use Rattle.descent.proofs.Fronts as front
 use Rattle.ruby_grammar.specs.Words.{Word}
-use Rattle.ruby_grammar.specs.Signs.{is_left_out}
+use Rattle.ruby_grammar.specs.Terminals.{is_left_out}
 use Rattle.ruby_grammar.specs.Marks.{Mark}
 use Rattle.ruby_grammar.specs.Rules.{ruby, Rule, a_tree, file}
 use Rattle.ruby_grammar.specs.Language.{ruby_grammar, IsFile, most_levels}

@@ -5,11 +5,13 @@ use Rattle.ruby_types.specs.declared.tree.Stmt.{Stmt}
 use Rattle.descent.specs.Grammar.{Prod, Among}
 use Rattle.descent.proofs.Starts.{Firsts, Starts}
 use Rattle.ruby_grammar.specs.Words.{Word}
-use Rattle.ruby_grammar.specs.Signs.{Level, units, products, sums, comparisons, equalities, conjunctions, disjunctions}
-use Rattle.ruby_grammar.specs.Signs.{is_variable, is_name, is_self, is_less, is_line, is_path, is_const, is_open_paren}
-use Rattle.ruby_grammar.specs.Signs.{is_return, is_raise, is_then, is_end, is_else, is_elsif, is_label, is_if}
-use Rattle.ruby_grammar.specs.Signs.{is_unless, is_int, is_text_open, is_sym, is_nil, is_true, is_false, is_ivar}
-use Rattle.ruby_grammar.specs.Signs.{is_open_bracket, is_open_brace, is_not, is_minus}
+use Rattle.ruby_grammar.specs.Terminals.{Level, units, products, sums, comparisons, equalities, conjunctions}
+use Rattle.ruby_grammar.specs.Terminals.{disjunctions}
+use Rattle.ruby_grammar.specs.Terminals.{is_variable, is_name, is_self, is_less, is_line, is_path, is_const}
+use Rattle.ruby_grammar.specs.Terminals.{is_open_paren}
+use Rattle.ruby_grammar.specs.Terminals.{is_return, is_raise, is_then, is_end, is_else, is_elsif, is_label, is_if}
+use Rattle.ruby_grammar.specs.Terminals.{is_unless, is_int, is_text_open, is_sym, is_nil, is_true, is_false, is_ivar}
+use Rattle.ruby_grammar.specs.Terminals.{is_open_bracket, is_open_brace, is_not, is_minus}
 use Rattle.ruby_grammar.specs.Rules.{ruby, Sort, Rule, Body, Around, Scope, Block, file, definitions, more_definitions}
 use Rattle.ruby_grammar.specs.Rules.{definition, path_rest, parent, constant, heading, parameter_list, parameters}
 use Rattle.ruby_grammar.specs.Rules.{opened_path}
@@ -24,7 +26,7 @@ use Rattle.ruby_grammar.specs.Choices.{starts_member}
 use Rattle.ruby_grammar.specs.Expressions as e
 use Rattle.ruby_grammar.specs.Statements as s
 use Rattle.ruby_grammar.specs.Definitions as d
-use Rattle.ruby_grammar.proofs.Tools.{Each, each_among, each_append, each_opening, sign_is, and_true, or_true}
+use Rattle.ruby_grammar.proofs.Tools.{Each, each_among, each_append, each_opening, terminal_is, and_true, or_true}
 
 -- what an expression begins with, but `!` and `-`
 abbrev pub starts_primary : Word → Bool
@@ -94,38 +96,39 @@ or_second false b h = h
 
 primary_all : (here : Scope) → All starts_primary (e.primary_forms here)
 primary_all here = (
-  λ w t. rw (sign_is 55 w t) refl,
+  λ w t. rw (terminal_is 55 w t) refl,
   (
-    λ w t. rw (sign_is 56 w t) refl,
+    λ w t. rw (terminal_is 56 w t) refl,
     (
-      λ w t. rw (sign_is 54 w t) refl,
+      λ w t. rw (terminal_is 54 w t) refl,
       (
-        λ w t. rw (sign_is 12 w t) refl,
+        λ w t. rw (terminal_is 12 w t) refl,
         (
-          λ w t. rw (sign_is 13 w t) refl,
+          λ w t. rw (terminal_is 13 w t) refl,
           (
-            λ w t. rw (sign_is 14 w t) refl,
+            λ w t. rw (terminal_is 14 w t) refl,
             (
-              λ w t. rw (sign_is 11 w t) refl,
+              λ w t. rw (terminal_is 11 w t) refl,
               (
-                λ w t. rw (sign_is 0 w t) refl,
+                λ w t. rw (terminal_is 0 w t) refl,
                 (
-                  λ w t. rw (sign_is 52 w t) refl,
+                  λ w t. rw (terminal_is 52 w t) refl,
                   (
                     (
                       refl,
                       λ w h. elim (or_true (is_path w) (is_const w) h) [
-                        | inl t ↦ rw (sign_is 86 w t) refl
-                        | inr t ↦ rw (sign_is 51 w t) refl
+                        | inl t ↦ rw (terminal_is 86 w t) refl
+                        | inr t ↦ rw (terminal_is 51 w t) refl
                       ],
                     ),
                     both starts_primary (e.opening here.levels (e.array_from here)) _
-                        (by_opening starts_primary here.levels (e.array_from here) (λ n w t. rw (sign_is 93 w t) refl))
+                        (by_opening starts_primary here.levels (e.array_from here)
+                            (λ n w t. rw (terminal_is 93 w t) refl))
                         (both starts_primary (e.opening here.levels (e.hash_from here)) _
                         (by_opening starts_primary here.levels (e.hash_from here)
-                        (λ n w t. rw (sign_is 95 w t) refl))
+                        (λ n w t. rw (terminal_is 95 w t) refl))
                         (by_opening starts_primary here.levels (e.group_from here)
-                        (λ n w t. rw (sign_is 91 w t) refl))),
+                        (λ n w t. rw (terminal_is 91 w t) refl))),
                   ),
                 ),
               ),
@@ -140,9 +143,9 @@ primary_all here = (
 unary_all : (here : Scope) → All starts_expression (e.unary_forms here)
 unary_all here =
     both starts_expression (e.opening here.levels (e.not_from here)) _
-    (by_opening starts_expression here.levels (e.not_from here) (λ n w t. rw (sign_is 72 w t) refl))
+    (by_opening starts_expression here.levels (e.not_from here) (λ n w t. rw (terminal_is 72 w t) refl))
     (both starts_expression (e.opening here.levels (e.minus_from here)) _
-    (by_opening starts_expression here.levels (e.minus_from here) (λ n w t. rw (sign_is 80 w t) refl)) (
+    (by_opening starts_expression here.levels (e.minus_from here) (λ n w t. rw (terminal_is 80 w t) refl)) (
       (
         refl,
         λ w h. or_first (starts_primary w || is_not w) (is_minus w)
@@ -165,10 +168,10 @@ variable_is : (w : Word) → is_variable w ≡ true → is_name w ≡ true
 variable_is w h = (and_true (is_name w) _ h).0
 
 setting_starts : (w : Word) → is_variable w ≡ true → starts_simple w ≡ true
-setting_starts w t = rw (sign_is 0 w (variable_is w t)) refl
+setting_starts w t = rw (terminal_is 0 w (variable_is w t)) refl
 
 set_all : (sets : Bool) (here : Around) → All starts_simple (s.where_it_may sets (s.setting_ivar here))
-set_all true here = (λ w t. rw (sign_is 52 w t) refl, tt)
+set_all true here = (λ w t. rw (terminal_is 52 w t) refl, tt)
 set_all false here = tt
 
 expression_is_simple : (w : Word) → starts_expression w ≡ true → starts_simple w ≡ true
@@ -177,9 +180,9 @@ expression_is_simple w h = or_first (starts_expression w || is_return w) (is_rai
 
 simple_all : (here : Around) → All starts_simple (s.simple_statement_forms here)
 simple_all here = (
-  λ w t. rw (sign_is 10 w t) refl,
+  λ w t. rw (terminal_is 10 w t) refl,
   (
-    λ w t. rw (sign_is 15 w t) refl,
+    λ w t. rw (terminal_is 15 w t) refl,
     (
       λ w t. setting_starts w t,
       both starts_simple (s.where_it_may here.sets (s.setting_ivar here)) _ (set_all here.sets here)
@@ -194,69 +197,70 @@ simple_is_statement w h = elim (or_true (starts_expression w || is_return w) (is
     | inl u ↦ or_first (starts_expression w || is_return w || is_raise w || is_if w) (is_unless w)
         (or_first (starts_expression w || is_return w || is_raise w) (is_if w)
         (or_first (starts_expression w || is_return w) (is_raise w) (or_first (starts_expression w) (is_return w) u)))
-    | inr u ↦ rw (sign_is 10 w u) refl
+    | inr u ↦ rw (terminal_is 10 w u) refl
   ]
-  | inr t ↦ rw (sign_is 15 w t) refl
+  | inr t ↦ rw (terminal_is 15 w t) refl
 ]
 
 statement_all : (here : Around) → All starts_statement (s.statement_forms here)
 statement_all here = (
   (refl, λ w h. simple_is_statement w h),
   both starts_statement (e.opening here.levels (s.if_from here)) _
-      (by_opening starts_statement here.levels (s.if_from here) (λ n w t. rw (sign_is 5 w t) refl))
-      (by_opening starts_statement here.levels (s.unless_from here) (λ n w t. rw (sign_is 8 w t) refl)),
+      (by_opening starts_statement here.levels (s.if_from here) (λ n w t. rw (terminal_is 5 w t) refl))
+      (by_opening starts_statement here.levels (s.unless_from here) (λ n w t. rw (terminal_is 8 w t) refl)),
 )
 
 elsif_all : (may_elsif : Bool) (levels : ℕ) (sets : Bool) (arms : List (Expr × List Stmt)) (b : Block) →
     All (λ w. is_end w || is_else w || is_elsif w) (s.elsif_forms levels sets may_elsif arms b)
-elsif_all true levels sets arms b = (λ w t. rw (sign_is 6 w t) refl, tt)
+elsif_all true levels sets arms b = (λ w t. rw (terminal_is 6 w t) refl, tt)
 elsif_all false levels sets arms b = tt
 
 branch_all : (closed : Bool) (levels : ℕ) (sets may_elsif : Bool) (arms : List (Expr × List Stmt)) (b : Block) →
     All (λ w. is_end w || is_else w || is_elsif w) (s.branch_forms closed levels sets may_elsif arms b)
-branch_all true levels sets may_elsif arms b = (λ w t. rw (sign_is 7 w t) refl, elsif_all may_elsif levels sets arms b)
+branch_all true levels sets may_elsif arms b =
+    (λ w t. rw (terminal_is 7 w t) refl, elsif_all may_elsif levels sets arms b)
 branch_all false levels sets may_elsif arms b = tt
 
 member_all : (top : Bool) (here : Body) →
     All (λ w. starts_top w || (not top && starts_member w)) (d.member_forms top here)
 member_all true here = tt
 member_all false here = (
-  λ w t. rw (sign_is 16 w t) refl,
+  λ w t. rw (terminal_is 16 w t) refl,
   (
-    λ w t. rw (sign_is 17 w t) refl,
+    λ w t. rw (terminal_is 17 w t) refl,
     by_opening (λ w. starts_top w || (not false && starts_member w))
-        here.levels (d.method_from here) (λ n w t. rw (sign_is 3 w t) refl),
+        here.levels (d.method_from here) (λ n w t. rw (terminal_is 3 w t) refl),
   ),
 )
 
 definition_all : (here : Body) → All (starts_definition here.path) (d.definition_forms here)
 definition_all here = (
-  λ w t. rw (sign_is 51 w t) refl,
+  λ w t. rw (terminal_is 51 w t) refl,
   both (starts_definition here.path)
       (e.opening here.levels (d.module_from here) ++ e.opening here.levels (d.class_from here)) _
       (both (starts_definition here.path) (e.opening here.levels (d.module_from here)) _
-      (by_opening (starts_definition here.path) here.levels (d.module_from here) (λ n w t. rw (sign_is 1 w t) refl))
-      (by_opening (starts_definition here.path) here.levels (d.class_from here) (λ n w t. rw (sign_is 2 w t) refl)))
+      (by_opening (starts_definition here.path) here.levels (d.module_from here) (λ n w t. rw (terminal_is 1 w t) refl))
+      (by_opening (starts_definition here.path) here.levels (d.class_from here) (λ n w t. rw (terminal_is 2 w t) refl)))
       (member_all (d.at_top here.path) here),
 )
 
 all_rule : {t : Sort} (rule : Rule t) → is_solid rule ≡ true → All (first_of_rule rule) (forms rule)
 all_rule (definition here) h = definition_all here
-all_rule (parent path at) h = (λ w t. rw (sign_is 75 w t) refl, (λ w t. rw (sign_is 50 w t) refl, tt))
-all_rule (constant ending) h = (λ w t. rw (sign_is 86 w t) refl, (λ w t. rw (sign_is 51 w t) refl, tt))
-all_rule (heading path) h = (λ w t. rw (sign_is 11 w t) refl, (λ w t. rw (sign_is 0 w t) refl, tt))
+all_rule (parent path at) h = (λ w t. rw (terminal_is 75 w t) refl, (λ w t. rw (terminal_is 50 w t) refl, tt))
+all_rule (constant ending) h = (λ w t. rw (terminal_is 86 w t) refl, (λ w t. rw (terminal_is 51 w t) refl, tt))
+all_rule (heading path) h = (λ w t. rw (terminal_is 11 w t) refl, (λ w t. rw (terminal_is 0 w t) refl, tt))
 all_rule (parameter_list levels) h = (
-  λ w t. rw (sign_is 50 w t) refl,
+  λ w t. rw (terminal_is 50 w t) refl,
   by_opening (λ w. is_line w || is_open_paren w) levels d.parameters_from
-      (λ n w t. rw (sign_is 91 w t) refl),
+      (λ n w t. rw (terminal_is 91 w t) refl),
 )
 all_rule (statement here) h = statement_all here
 all_rule (simple_statement here) h = simple_all here
-all_rule then_or_line h = (λ w t. rw (sign_is 9 w t) refl, (λ w t. rw (sign_is 50 w t) refl, tt))
+all_rule then_or_line h = (λ w t. rw (terminal_is 9 w t) refl, (λ w t. rw (terminal_is 50 w t) refl, tt))
 all_rule (arms_rest levels sets may_elsif arms b) h =
-    (λ w t. rw (sign_is 4 w t) refl, branch_all b.closed levels sets may_elsif arms b)
+    (λ w t. rw (terminal_is 4 w t) refl, branch_all b.closed levels sets may_elsif arms b)
 all_rule (pair here) h =
-    (λ w t. rw (sign_is 53 w t) refl, ((refl, λ w h. or_second (is_label w) (starts_expression w) h), tt))
+    (λ w t. rw (terminal_is 53 w t) refl, ((refl, λ w h. or_second (is_label w) (starts_expression w) h), tt))
 all_rule (expression here) h = ((refl, λ w h. h), tt)
 all_rule (operators level here) h = operators_all level here
 all_rule (unary here) h = unary_all here

@@ -22,11 +22,11 @@ use Rattle.ruby_token.proofs.SpanLaws.{tokens_in, tokens_with}
 use Rattle.ruby_words.specs.Words.{word_rows}
 use Rattle.ruby_token.specs.Spans.{text_of}
 use Rattle.ruby_grammar.specs.Words.{words_behind, words_of}
-use Rattle.ruby_grammar.specs.Signs.{code_in, op_sign, kind_sign}
+use Rattle.ruby_grammar.specs.Terminals.{code_in, op_terminal, kind_terminal}
 use Rattle.ruby_grammar.specs.Numbers.{NumbersFit}
 use Rattle.ruby_grammar.proofs.Tools.{not_true, and_true}
 
--- ---- only a number has the sign of a number
+-- ---- only a number has the terminal of a number
 
 abbrev lacks : ℕ → List (List ℕ × ℕ) → Bool
 lacks n [] = not (0 == n)
@@ -40,7 +40,7 @@ lacking n (row ∷ rows) name h = split_if (λ c. (c == n) ≡ false) (bytes_eq 
 true_false : (b : Bool) → b ≡ true → b ≡ false → ⊥
 true_false b h k = cc
 
-no_operator : (o : Op) → (op_sign o == 55) ≡ true → ⊥
+no_operator : (o : Op) → (op_terminal o == 55) ≡ true → ⊥
 no_operator op.OrElse h = cc
 no_operator op.AndAlso h = cc
 no_operator op.Not h = cc
@@ -96,7 +96,7 @@ in_range : (b : Bool) → not b ≡ false → b ≡ true
 in_range true h = refl
 in_range false h = cc
 
-number_fits : (kind : TokenKind) (text : List ℕ) → is_big kind text ≡ false → (kind_sign kind text == 55) ≡ true →
+number_fits : (kind : TokenKind) (text : List ℕ) → is_big kind text ≡ false → (kind_terminal kind text == 55) ≡ true →
     is_in_range text ≡ true
 number_fits k.Int text b h = in_range (is_in_range text) b
 number_fits k.Name text b h = absurd (true_false _ h (lacking 55 word_rows text refl))

@@ -10,12 +10,15 @@ use Rattle.descent.proofs.Following.{Opening, Fitting, before_give, before_start
 use Rattle.descent.proofs.Following.{before_perhaps}
 use Rattle.ruby_grammar.specs.Words.{Word}
 use Rattle.ruby_grammar.specs.Marks.{Mark}
-use Rattle.ruby_grammar.specs.Signs
-use Rattle.ruby_grammar.specs.Signs.{Level, units, products, sums, comparisons, equalities, conjunctions, disjunctions}
-use Rattle.ruby_grammar.specs.Signs.{tighter, repeats, sign, is_operator, is_end, is_if, is_elsif, is_else, is_unless}
-use Rattle.ruby_grammar.specs.Signs.{is_then, is_line, is_ask, is_path, is_dot, is_comma, is_close_paren}
-use Rattle.ruby_grammar.specs.Signs.{is_close_bracket, is_close_brace, is_text_close, is_tight_paren, is_tight_bracket}
-use Rattle.ruby_grammar.specs.Signs.{is_open_bracket, is_colon, is_arrow, is_inside_close, is_less}
+use Rattle.ruby_grammar.specs.Terminals
+use Rattle.ruby_grammar.specs.Terminals.{Level, units, products, sums, comparisons, equalities, conjunctions}
+use Rattle.ruby_grammar.specs.Terminals.{disjunctions}
+use Rattle.ruby_grammar.specs.Terminals.{tighter, repeats, terminal, is_operator, is_end, is_if, is_elsif, is_else}
+use Rattle.ruby_grammar.specs.Terminals.{is_unless}
+use Rattle.ruby_grammar.specs.Terminals.{is_then, is_line, is_ask, is_path, is_dot, is_comma, is_close_paren}
+use Rattle.ruby_grammar.specs.Terminals.{is_close_bracket, is_close_brace, is_text_close, is_tight_paren}
+use Rattle.ruby_grammar.specs.Terminals.{is_tight_bracket}
+use Rattle.ruby_grammar.specs.Terminals.{is_open_bracket, is_colon, is_arrow, is_inside_close, is_less}
 use Rattle.ruby_grammar.specs.Marks.{opens_module, opens_class}
 use Rattle.ruby_grammar.specs.Rules.{ruby, Val, Name, Sort, Rule, Body, Around, Scope, Block, a_tree, some_defs, a_def}
 use Rattle.ruby_grammar.specs.Rules.{some_names, a_parent, a_constant, a_block, a_statement, an_expression}
@@ -35,7 +38,7 @@ use Rattle.ruby_grammar.specs.Follow.{goes_on_expression, ends_members}
 use Rattle.ruby_grammar.specs.Expressions as e
 use Rattle.ruby_grammar.specs.Statements as s
 use Rattle.ruby_grammar.specs.Definitions as d
-use Rattle.ruby_grammar.proofs.Tools.{Each, each_among, each_append, each_opening, sign_is, and_true}
+use Rattle.ruby_grammar.proofs.Tools.{Each, each_among, each_append, each_opening, terminal_is, and_true}
 use Rattle.ruby_grammar.proofs.First.{ruby_firsts, first_of_rule, is_solid, starts_law}
 
 -- ---- facts of single words
@@ -71,19 +74,21 @@ pub either : {P : Type 0} (a b : Bool) → (a || b) ≡ true → (a ≡ true →
 either true b h f k = f refl
 either false b h f k = k h
 
-pub block_cases : (w : Word) (Q : Type 0) → (sign w ≡ 4 → Q) → (sign w ≡ 6 → Q) → (sign w ≡ 7 → Q) →
+pub block_cases : (w : Word) (Q : Type 0) → (terminal w ≡ 4 → Q) → (terminal w ≡ 6 → Q) → (terminal w ≡ 7 → Q) →
     ends_block w ≡ true → Q
 block_cases w Q a b c h = either (is_end w || is_elsif w) (is_else w) h
-    (λ t. either (is_end w) (is_elsif w) t (λ u. a (sign_is 4 w u)) (λ u. b (sign_is 6 w u))) (λ u. c (sign_is 7 w u))
+    (λ t. either (is_end w) (is_elsif w) t (λ u. a (terminal_is 4 w u)) (λ u. b (terminal_is 6 w u)))
+        (λ u. c (terminal_is 7 w u))
 
-pub statement_cases : (w : Word) (Q : Type 0) → (sign w ≡ 50 → Q) → (sign w ≡ 4 → Q) → (sign w ≡ 6 → Q) →
-    (sign w ≡ 7 → Q) → ends_statement w ≡ true → Q
-statement_cases w Q l a b c h = either (is_line w) (ends_block w) h (λ u. l (sign_is 50 w u)) (block_cases w Q a b c)
+pub statement_cases : (w : Word) (Q : Type 0) → (terminal w ≡ 50 → Q) → (terminal w ≡ 4 → Q) → (terminal w ≡ 6 → Q) →
+    (terminal w ≡ 7 → Q) → ends_statement w ≡ true → Q
+statement_cases w Q l a b c h = either (is_line w) (ends_block w) h (λ u. l (terminal_is 50 w u))
+    (block_cases w Q a b c)
 
-pub simple_cases : (w : Word) (Q : Type 0) → (sign w ≡ 5 → Q) → (sign w ≡ 8 → Q) → (sign w ≡ 50 → Q) →
-    (sign w ≡ 4 → Q) → (sign w ≡ 6 → Q) → (sign w ≡ 7 → Q) → ends_simple w ≡ true → Q
+pub simple_cases : (w : Word) (Q : Type 0) → (terminal w ≡ 5 → Q) → (terminal w ≡ 8 → Q) → (terminal w ≡ 50 → Q) →
+    (terminal w ≡ 4 → Q) → (terminal w ≡ 6 → Q) → (terminal w ≡ 7 → Q) → ends_simple w ≡ true → Q
 simple_cases w Q i u l a b c h = either (is_if w || is_unless w) (ends_statement w) h
-    (λ t. either (is_if w) (is_unless w) t (λ v. i (sign_is 5 w v)) (λ v. u (sign_is 8 w v)))
+    (λ t. either (is_if w) (is_unless w) t (λ v. i (terminal_is 5 w v)) (λ v. u (terminal_is 8 w v)))
     (statement_cases w Q l a b c)
 
 block_not : (w : Word) → ends_block w ≡ true → goes_on_expression w ≡ false
@@ -98,71 +103,76 @@ simple_not w h = simple_cases w (goes_on_expression w ≡ false) (λ e. rw e ref
     (λ e. rw e refl) (λ e. rw e refl) (λ e. rw e refl) h
 
 definition_not : (w : Word) → (is_line w || is_end w) ≡ true → goes_on_expression w ≡ false
-definition_not w h = either (is_line w) (is_end w) h (λ u. rw (sign_is 50 w u) refl) (λ u. rw (sign_is 4 w u) refl)
+definition_not w h = either (is_line w) (is_end w) h (λ u. rw (terminal_is 50 w u) refl)
+    (λ u. rw (terminal_is 4 w u) refl)
 
 definition_not_path : (w : Word) → (is_line w || is_end w) ≡ true → is_path w ≡ false
-definition_not_path w h = either (is_line w) (is_end w) h (λ u. rw (sign_is 50 w u) refl) (λ u. rw (sign_is 4 w u) refl)
+definition_not_path w h = either (is_line w) (is_end w) h (λ u. rw (terminal_is 50 w u) refl)
+    (λ u. rw (terminal_is 4 w u) refl)
 
 definition_not_comma : (w : Word) → (is_line w || is_end w) ≡ true → is_comma w ≡ false
-definition_not_comma w h = either (is_line w) (is_end w) h (λ u. rw (sign_is 50 w u) refl)
-    (λ u. rw (sign_is 4 w u) refl)
+definition_not_comma w h = either (is_line w) (is_end w) h (λ u. rw (terminal_is 50 w u) refl)
+    (λ u. rw (terminal_is 4 w u) refl)
 
 members_not : (w : Word) → ends_members w ≡ true → goes_on_expression w ≡ false
-members_not w h = either (is_close_paren w) (is_close_bracket w) h (λ u. rw (sign_is 92 w u) refl)
-    (λ u. rw (sign_is 94 w u) refl)
+members_not w h = either (is_close_paren w) (is_close_bracket w) h (λ u. rw (terminal_is 92 w u) refl)
+    (λ u. rw (terminal_is 94 w u) refl)
 
 pair_not : (w : Word) → (is_comma w || is_close_brace w) ≡ true → goes_on_expression w ≡ false
-pair_not w h = either (is_comma w) (is_close_brace w) h (λ u. rw (sign_is 88 w u) refl) (λ u. rw (sign_is 96 w u) refl)
+pair_not w h = either (is_comma w) (is_close_brace w) h (λ u. rw (terminal_is 88 w u) refl)
+    (λ u. rw (terminal_is 96 w u) refl)
 
-pub unless_sign : (n : ℕ) (q t : Word → Bool) (w : Word) → (t w ≡ true → sign w ≡ n) → (sign w ≡ n → q w ≡ false) →
+pub unless_terminal : (n : ℕ) (q t : Word → Bool) (w : Word) → (t w ≡ true → terminal w ≡ n) →
+    (terminal w ≡ n → q w ≡ false) →
     q w ≡ true → t w ≡ false
-unless_sign n q t w f k h = by (t w) refl
+unless_terminal n q t w f k h = by (t w) refl
   where
     by : (b : Bool) → t w ≡ b → t w ≡ false
     by true e = let z = k (f e) in cc
     by false e = e
 
 statement_not_line : (w : Word) → starts_statement w ≡ true → is_line w ≡ false
-statement_not_line w h = unless_sign 50 starts_statement is_line w (sign_is 50 w) (λ e. rw e refl) h
+statement_not_line w h = unless_terminal 50 starts_statement is_line w (terminal_is 50 w) (λ e. rw e refl) h
 
 arms_not_line : (w : Word) → (is_end w || is_else w || is_elsif w) ≡ true → is_line w ≡ false
-arms_not_line w h = unless_sign 50 (λ v. is_end v || is_else v || is_elsif v) is_line w (sign_is 50 w)
+arms_not_line w h = unless_terminal 50 (λ v. is_end v || is_else v || is_elsif v) is_line w (terminal_is 50 w)
     (λ e. rw e refl) h
 
 arms_end_block : (w : Word) → (is_end w || is_else w || is_elsif w) ≡ true → ends_block w ≡ true
 arms_end_block w h = either (is_end w || is_else w) (is_elsif w) h
-    (λ t. either (is_end w) (is_else w) t (λ u. rw (sign_is 4 w u) refl) (λ u. rw (sign_is 7 w u) refl))
-    (λ u. rw (sign_is 6 w u) refl)
+    (λ t. either (is_end w) (is_else w) t (λ u. rw (terminal_is 4 w u) refl) (λ u. rw (terminal_is 7 w u) refl))
+    (λ u. rw (terminal_is 6 w u) refl)
 
 pub simple_not_start : (w : Word) → ends_simple w ≡ true → starts_expression w ≡ false
 simple_not_start w h = simple_cases w (starts_expression w ≡ false) (λ e. rw e refl) (λ e. rw e refl)
     (λ e. rw e refl) (λ e. rw e refl) (λ e. rw e refl) (λ e. rw e refl) h
 
 dot_not : (w : Word) → (is_dot w || is_tight_bracket w) ≡ true → goes_on_primary w ≡ false
-dot_not w h = either (is_dot w) (is_tight_bracket w) h (λ u. rw (sign_is 87 w u) refl)
-    (λ u. rw (sign_is 93 w (and_true (is_open_bracket w) w.tight u).0) refl)
+dot_not w h = either (is_dot w) (is_tight_bracket w) h (λ u. rw (terminal_is 87 w u) refl)
+    (λ u. rw (terminal_is 93 w (and_true (is_open_bracket w) w.tight u).0) refl)
 
 dot_not_paren : (w : Word) → (is_dot w || is_tight_bracket w) ≡ true → is_tight_paren w ≡ false
-dot_not_paren w h = either (is_dot w) (is_tight_bracket w) h (λ u. rw (sign_is 87 w u) refl)
-    (λ u. rw (sign_is 93 w (and_true (is_open_bracket w) w.tight u).0) refl)
+dot_not_paren w h = either (is_dot w) (is_tight_bracket w) h (λ u. rw (terminal_is 87 w u) refl)
+    (λ u. rw (terminal_is 93 w (and_true (is_open_bracket w) w.tight u).0) refl)
 
 operator_not : (level : Level) (w : Word) → is_operator level w ≡ true → goes_on (tighter level) w ≡ false
 operator_not units w h = cc
-operator_not products w h = either (Signs.is 81 w || Signs.is 82 w) (Signs.is 83 w) h
-    (λ t. either (Signs.is 81 w) (Signs.is 82 w) t (λ u. rw (sign_is 81 w u) refl) (λ u. rw (sign_is 82 w u) refl))
-    (λ u. rw (sign_is 83 w u) refl)
-operator_not sums w h = either (Signs.is 79 w) (Signs.is 80 w) h (λ u. rw (sign_is 79 w u) refl)
-    (λ u. rw (sign_is 80 w u) refl)
+operator_not products w h = either (Terminals.is 81 w || Terminals.is 82 w) (Terminals.is 83 w) h
+    (λ t. either (Terminals.is 81 w) (Terminals.is 82 w) t (λ u. rw (terminal_is 81 w u) refl)
+        (λ u. rw (terminal_is 82 w u) refl))
+    (λ u. rw (terminal_is 83 w u) refl)
+operator_not sums w h = either (Terminals.is 79 w) (Terminals.is 80 w) h (λ u. rw (terminal_is 79 w u) refl)
+    (λ u. rw (terminal_is 80 w u) refl)
 operator_not comparisons w h =
-    either (Signs.is 75 w || Signs.is 76 w || Signs.is 77 w) (Signs.is 78 w) h
-    (λ t. either (Signs.is 75 w || Signs.is 76 w) (Signs.is 77 w) t
-    (λ v. either (Signs.is 75 w) (Signs.is 76 w) v (λ u. rw (sign_is 75 w u) refl)
-    (λ u. rw (sign_is 76 w u) refl)) (λ u. rw (sign_is 77 w u) refl))
-    (λ u. rw (sign_is 78 w u) refl)
-operator_not equalities w h = either (Signs.is 73 w) (Signs.is 74 w) h (λ u. rw (sign_is 73 w u) refl)
-    (λ u. rw (sign_is 74 w u) refl)
-operator_not conjunctions w h = rw (sign_is 71 w h) refl
-operator_not disjunctions w h = rw (sign_is 70 w h) refl
+    either (Terminals.is 75 w || Terminals.is 76 w || Terminals.is 77 w) (Terminals.is 78 w) h
+    (λ t. either (Terminals.is 75 w || Terminals.is 76 w) (Terminals.is 77 w) t
+    (λ v. either (Terminals.is 75 w) (Terminals.is 76 w) v (λ u. rw (terminal_is 75 w u) refl)
+    (λ u. rw (terminal_is 76 w u) refl)) (λ u. rw (terminal_is 77 w u) refl))
+    (λ u. rw (terminal_is 78 w u) refl)
+operator_not equalities w h = either (Terminals.is 73 w) (Terminals.is 74 w) h (λ u. rw (terminal_is 73 w u) refl)
+    (λ u. rw (terminal_is 74 w u) refl)
+operator_not conjunctions w h = rw (terminal_is 71 w h) refl
+operator_not disjunctions w h = rw (terminal_is 70 w h) refl
 
 tighter_fits : (level : Level) → Imp (none_is (goes_on level)) (none_is (goes_on (tighter level)))
 tighter_fits units a h = h
@@ -292,7 +302,7 @@ arm_follows fit levels sets may_elsif condition names arms = λ x. (
   ),
   (refl, λ y. (refl, λ b. (refl, λ r. tt))),
   rl a_statement fit (none_is goes_on_expression) then_or_line _ refl
-      (λ w h. either (is_then w) (is_line w) h (λ u. rw (sign_is 9 w u) refl) (λ u. rw (sign_is 50 w u) refl)),
+      (λ w h. either (is_then w) (is_line w) h (λ u. rw (terminal_is 9 w u) refl) (λ u. rw (terminal_is 50 w u) refl)),
 )
 
 statement_follows : (here : Around) → Each (λ p. Follows ruby_grammar ruby_follow (next_is ends_statement) p)
@@ -324,10 +334,11 @@ branch_follows : (closed : Bool) (levels : ℕ) (sets may_elsif : Bool) (arms : 
     Each (λ p. Follows ruby_grammar ruby_follow (λ a. true) p) (s.branch_forms closed levels sets may_elsif arms b)
 branch_follows true levels sets may_elsif arms b = (
   λ w t y. (
-    λ c. (λ w2 t2. tt, tt, tk a_statement (λ a. true) (next_is ends_block) is_end _ (λ v u. rw (sign_is 4 v u) refl)),
+    λ c. (λ w2 t2. tt, tt, tk a_statement (λ a. true) (next_is ends_block) is_end _
+        (λ v u. rw (terminal_is 4 v u) refl)),
     (refl, λ c. tt),
     no_line_next a_statement (λ a. true) (s.around levels sets b.names) [] _
-        (λ c. tk a_statement (λ a. true) (none_is is_line) is_end _ (λ v u. rw (sign_is 4 v u) refl)),
+        (λ c. tk a_statement (λ a. true) (none_is is_line) is_end _ (λ v u. rw (terminal_is 4 v u) refl)),
   ),
   elsif_follows may_elsif levels sets arms b,
 )
@@ -357,7 +368,7 @@ member_follows false here = (
               λ w2 t2. tt,
               tt,
               tk a_def (ends_or (λ w. is_line w || is_end w)) (next_is ends_block) is_end _
-                  (λ v u. rw (sign_is 4 v u) refl),
+                  (λ v u. rw (terminal_is 4 v u) refl),
             ),
             (refl, λ b. tt),
             λ ts x rest a k. refl,
@@ -398,7 +409,7 @@ follows_forms (definitions here ds) = (
     λ z. (tt, tt, gv some_defs (fits (definitions here ds)) (fits (definitions here ds)) _ (λ a h. h)),
     (refl, λ z. tt),
     on (fits (definitions here ds)) (fits (definition here)) is_line
-        (more_definitions here (ds ++ y ∷ [])) (λ w t. t, (tt, tt)) (λ w t. rw (sign_is 50 w t) refl)
+        (more_definitions here (ds ++ y ∷ [])) (λ w t. t, (tt, tt)) (λ w t. rw (terminal_is 50 w t) refl)
         (ends_ends is_end (λ w. is_line w || is_end w) (λ w h. or_second (is_line w) (is_end w) h)),
   ),
   (tt, tt),
@@ -423,7 +434,7 @@ follows_forms (parent path at) = (
     λ w2 t2. tt,
     tt,
     tk a_parent (fits (parent path at)) (none_is is_path) is_line _
-        (λ v u. rw (sign_is 50 v u) refl),
+        (λ v u. rw (terminal_is 50 v u) refl),
   ),
   (λ w t. tt, tt),
 )
@@ -470,7 +481,7 @@ follows_forms (statements here ss) = (
     (refl, λ z. tt),
     on (fits (statements here ss)) (fits (statement here)) is_line
         (more_statements (s.behind here y.names) (ss ++ y.stmt ∷ [])) (λ w t. t, (tt, tt))
-        (λ w t. rw (sign_is 50 w t) refl)
+        (λ w t. rw (terminal_is 50 w t) refl)
         (pos_pos ends_block ends_statement (λ w h. or_second (is_line w) (ends_block w) h)),
   ),
   (tt, tt),
@@ -547,7 +558,7 @@ follows_forms (expression here) = (
     λ z. (tt, tt, gv an_expression (none_is goes_on_expression) (none_is goes_on_expression) _ (λ a h. h)),
     (refl, λ z. tt),
     on (none_is goes_on_expression) (none_is goes_on_disjunctions) is_ask (choice_rest here y)
-        (λ w t. t, (tt, tt)) (λ w t. rw (sign_is 84 w t) refl) (weaker is_ask goes_on_disjunctions),
+        (λ w t. t, (tt, tt)) (λ w t. rw (terminal_is 84 w t) refl) (weaker is_ask goes_on_disjunctions),
   ),
   tt,
 )
@@ -557,7 +568,7 @@ follows_forms (choice_rest here x) = (
         (tt, tt, gv an_expression (none_is goes_on_expression) (none_is goes_on_expression) _ (λ a h. h)),
     tt,
     tk an_expression (none_is goes_on_expression) (none_is goes_on_expression) is_colon _
-        (λ v u. rw (sign_is 85 v u) refl),
+        (λ v u. rw (terminal_is 85 v u) refl),
   ),
   (tt, tt),
 )
@@ -765,7 +776,7 @@ follows_forms (more_postfix here x) = (
         λ w2 t2. λ z. (tt, tt, gv an_expression (none_is goes_on_postfix) (none_is goes_on_postfix) _ (λ a h. h)),
         tt,
         tk an_expression (none_is goes_on_postfix) (none_is goes_on_expression) is_close_bracket _
-            (λ v u. rw (sign_is 94 v u) refl),
+            (λ v u. rw (terminal_is 94 v u) refl),
       ))) ((tt, tt)),
 )
 follows_forms (primary here) = (
@@ -802,7 +813,7 @@ follows_forms (primary here) = (
                           λ w2 t2. tt,
                           tt,
                           tk an_expression (none_is goes_on_primary)
-                              (next_is ends_members) is_close_bracket _ (λ v u. rw (sign_is 94 v u) refl),
+                              (next_is ends_members) is_close_bracket _ (λ v u. rw (terminal_is 94 v u) refl),
                         )))
                         (each_append (λ p. Follows ruby_grammar ruby_follow (none_is goes_on_primary) p)
                         (e.opening here.levels (e.hash_from here)) _
@@ -812,7 +823,7 @@ follows_forms (primary here) = (
                           λ w2 t2. tt,
                           tt,
                           tk an_expression (none_is goes_on_primary)
-                              (next_is is_close_brace) is_close_brace _ (λ v u. rw (sign_is 96 v u) refl),
+                              (next_is is_close_brace) is_close_brace _ (λ v u. rw (terminal_is 96 v u) refl),
                         )))
                         (each_opening (λ p. Follows ruby_grammar ruby_follow (none_is goes_on_primary) p) here.levels
                         (e.group_from here)
@@ -820,7 +831,7 @@ follows_forms (primary here) = (
                           λ w2 t2. tt,
                           tt,
                           tk an_expression (none_is goes_on_primary)
-                              (none_is goes_on_expression) is_close_paren _ (λ v u. rw (sign_is 92 v u) refl),
+                              (none_is goes_on_expression) is_close_paren _ (λ v u. rw (terminal_is 92 v u) refl),
                         )))),
                   ),
                 ),
@@ -839,7 +850,7 @@ follows_forms (name_rest here name) = each_append (λ p. Follows ruby_grammar ru
       λ w2 t2. tt,
       tt,
       tk an_expression (none_is goes_on_primary) (next_is ends_members) is_close_paren _
-          (λ v u. rw (sign_is 92 v u) refl),
+          (λ v u. rw (terminal_is 92 v u) refl),
     ))) ((tt, tt))
 follows_forms (perhaps_arguments here) =
     each_append (λ p. Follows ruby_grammar ruby_follow (none_is is_tight_paren) p)
@@ -849,14 +860,14 @@ follows_forms (perhaps_arguments here) =
       λ w2 t2. tt,
       tt,
       tk some_expressions (none_is is_tight_paren) (next_is ends_members) is_close_paren _
-          (λ v u. rw (sign_is 92 v u) refl),
+          (λ v u. rw (terminal_is 92 v u) refl),
     ))) ((tt, tt))
 follows_forms (members here xs) = (
   λ y. (
     λ z. (tt, tt, gv some_expressions (next_is ends_members) (next_is ends_members) _ (λ a h. h)),
     (refl, λ z. tt),
     on (next_is ends_members) (none_is goes_on_expression) is_comma
-        (more_members here (xs ++ y ∷ [])) (λ w t. t, (tt, tt)) (λ w t. rw (sign_is 88 w t) refl)
+        (more_members here (xs ++ y ∷ [])) (λ w t. t, (tt, tt)) (λ w t. rw (terminal_is 88 w t) refl)
         (pos_neg ends_members goes_on_expression members_not),
   ),
   (tt, tt),
@@ -868,7 +879,7 @@ follows_forms (pairs here ps) = (
     λ z. (tt, tt, gv some_pairs (next_is is_close_brace) (next_is is_close_brace) _ (λ a h. h)),
     (refl, λ z. tt),
     on (next_is is_close_brace) (next_is (λ w. is_comma w || is_close_brace w)) is_comma
-        (more_pairs here (ps ++ y ∷ [])) (λ w t. t, (tt, tt)) (λ w t. rw (sign_is 88 w t) refl)
+        (more_pairs here (ps ++ y ∷ [])) (λ w t. t, (tt, tt)) (λ w t. rw (terminal_is 88 w t) refl)
         (pos_pos is_close_brace (λ w. is_comma w || is_close_brace w)
         (λ w h. or_second (is_comma w) (is_close_brace w) h)),
   ),
@@ -893,7 +904,7 @@ follows_forms (pair here) = (
       ),
       tt,
       tk a_pair (next_is (λ w. is_comma w || is_close_brace w)) (none_is goes_on_expression) is_arrow _
-          (λ v u. rw (sign_is 90 v u) refl),
+          (λ v u. rw (terminal_is 90 v u) refl),
     ),
     tt,
   ),
@@ -909,7 +920,7 @@ follows_forms (text_parts here double parts) = (
             (tt, tt, gv some_parts (next_is is_text_close) (next_is is_text_close) _ (λ a h. h)),
         tt,
         tk some_parts (next_is is_text_close) (none_is goes_on_expression) is_inside_close _
-            (λ v u. rw (sign_is 59 v u) refl),
+            (λ v u. rw (terminal_is 59 v u) refl),
       ))) ((tt, tt)),
 )
 follows_forms (definition here) =
@@ -933,7 +944,7 @@ follows_forms (definition here) =
             tt,
             tk a_def (ends_or (λ w. is_line w || is_end w))
                 (fits (d.opened_from here opens_module w2)) is_line _
-                (λ v u. opened_fits (d.at_top here.path) _ (w2.text ∷ []) v (rw (sign_is 50 v u) refl)),
+                (λ v u. opened_fits (d.at_top here.path) _ (w2.text ∷ []) v (rw (terminal_is 50 v u) refl)),
           )))
           (each_opening (λ p. Follows ruby_grammar ruby_follow (ends_or (λ w. is_line w || is_end w)) p) here.levels
           (d.class_from here) (λ n. λ w t w2 t2 path. (
@@ -951,7 +962,8 @@ follows_forms (definition here) =
             rl a_def (ends_or (λ w. is_line w || is_end w)) (fits (d.opened_from here opens_class w2))
                 (parent (here.path ++ path) w2.at) _ refl
                 (λ v u. opened_fits (d.at_top here.path) _ (w2.text ∷ []) v
-                (either (is_less v) (is_line v) u (λ z. rw (sign_is 75 v z) refl) (λ z. rw (sign_is 50 v z) refl))),
+                (either (is_less v) (is_line v) u (λ z. rw (terminal_is 75 v z) refl)
+                    (λ z. rw (terminal_is 50 v z) refl))),
           ))),
     )
     (member_follows (d.at_top here.path) here)

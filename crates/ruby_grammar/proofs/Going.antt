@@ -10,8 +10,9 @@ use Rattle.ruby_types.specs.declared.tree.Stmt.{Stmt}
 use Rattle.descent.specs.Grammar.{Prod, Among}
 use Rattle.descent.specs.Lawful.{Goes}
 use Rattle.ruby_grammar.specs.Words.{Word}
-use Rattle.ruby_grammar.specs.Signs.{Level, units, products, sums, comparisons, equalities, conjunctions, disjunctions}
-use Rattle.ruby_grammar.specs.Signs.{is_new_parameter, has, ends_in_suffix}
+use Rattle.ruby_grammar.specs.Terminals.{Level, units, products, sums, comparisons, equalities, conjunctions}
+use Rattle.ruby_grammar.specs.Terminals.{disjunctions}
+use Rattle.ruby_grammar.specs.Terminals.{is_new_parameter, has, ends_in_suffix}
 use Rattle.ruby_grammar.specs.Rules.{ruby, Sort, Rule, Body, Around, Scope, Block, file, definitions, more_definitions}
 use Rattle.ruby_grammar.specs.Rules.{definition, path_rest, parent, constant, heading, parameter_list, parameters}
 use Rattle.ruby_grammar.specs.Rules.{opened_path}

@@ -5,9 +5,10 @@ use Rattle.ruby_types.specs.declared.tree.Expr.{Expr}
 use Rattle.ruby_types.specs.declared.tree.Stmt.{Stmt}
 use Rattle.descent.specs.Grammar.{Prod, Among, words}
 use Rattle.ruby_grammar.specs.Words.{Word}
-use Rattle.ruby_grammar.specs.Signs.{Level, units, products, sums, comparisons, equalities, conjunctions, disjunctions}
-use Rattle.ruby_grammar.specs.Signs.{is_operator, is_name, is_open_paren, is_open_bracket, is_tight_paren}
-use Rattle.ruby_grammar.specs.Signs.{is_tight_bracket, is_variable}
+use Rattle.ruby_grammar.specs.Terminals.{Level, units, products, sums, comparisons, equalities, conjunctions}
+use Rattle.ruby_grammar.specs.Terminals.{disjunctions}
+use Rattle.ruby_grammar.specs.Terminals.{is_operator, is_name, is_open_paren, is_open_bracket, is_tight_paren}
+use Rattle.ruby_grammar.specs.Terminals.{is_tight_bracket, is_variable}
 use Rattle.ruby_grammar.specs.Rules.{ruby, Sort, Rule, Name, Body, Block, file, definitions, more_definitions}
 use Rattle.ruby_grammar.specs.Rules.{definition, path_rest, parent, constant, heading, parameter_list, parameters}
 use Rattle.ruby_grammar.specs.Rules.{opened_path}
@@ -24,17 +25,17 @@ use Rattle.std.specs.Prelude.{◌==◌, nat_le}
 use Rattle.descent.specs.Faults.{Begins}
 use Rattle.descent.proofs.Lists.{words_append}
 use Rattle.descent.proofs.Avoids.{Avoided, Avoids, NoneBad, avoids}
-use Rattle.ruby_grammar.specs.Signs.{is, is_left_out, is_new_parameter}
-use Rattle.ruby_grammar.proofs.Tools.{Each, each_among, each_append, each_opening, sign_is, and_true}
+use Rattle.ruby_grammar.specs.Terminals.{is, is_left_out, is_new_parameter}
+use Rattle.ruby_grammar.proofs.Tools.{Each, each_among, each_append, each_opening, terminal_is, and_true}
 
 abbrev left_out : Avoided ruby
 left_out = record { bad = is_left_out; clean = λ rule. true }
 
-abbrev left_sign : ℕ → Bool
-left_sign n = (nat_le 18 n && nat_le n 47) || (n == 99)
+abbrev left_terminal : ℕ → Bool
+left_terminal n = (nat_le 18 n && nat_le n 47) || (n == 99)
 
-inside : (n : ℕ) → left_sign n ≡ false → (w : Word) → is n w ≡ true → is_left_out w ≡ false
-inside n h w t = subst (λ k. left_sign k ≡ false) (sym (sign_is n w t)) h
+inside : (n : ℕ) → left_terminal n ≡ false → (w : Word) → is n w ≡ true → is_left_out w ≡ false
+inside n h w t = subst (λ k. left_terminal k ≡ false) (sym (terminal_is n w t)) h
 
 variable_inside : (w : Word) → is_variable w ≡ true → is_left_out w ≡ false
 variable_inside w t = inside 0 refl w (and_true (is_name w) _ t).0

@@ -1,7 +1,7 @@
 -- The choice looks at one word, but for a simple statement.
 use Rattle.std.proofs.Common.{◌≡◌, false, Option, Some, None, refl}
 use Rattle.ruby_grammar.specs.Words.{Word}
-use Rattle.ruby_grammar.specs.Signs.{is_variable, is_ivar}
+use Rattle.ruby_grammar.specs.Terminals.{is_variable, is_ivar}
 use Rattle.ruby_grammar.specs.Rules.{Sort, Rule, Around, file, definitions, more_definitions, definition, path_rest}
 use Rattle.ruby_grammar.specs.Rules.{opened_path}
 use Rattle.ruby_grammar.specs.Rules.{parent, constant, heading, parameter_list, parameters, more_parameters}

@@ -8,24 +8,25 @@ use Rattle.descent.specs.Reading.{take, choose, head}
 use Rattle.descent.proofs.Moves.{Moves, moves_token, moves_call}
 use Rattle.descent.proofs.Laws.{take_is}
 use Rattle.ruby_grammar.specs.Words.{Word}
-use Rattle.ruby_grammar.specs.Signs.{units, products, sums, comparisons, equalities, conjunctions, disjunctions, sign}
-use Rattle.ruby_grammar.specs.Signs.{is_variable, is_ivar, is_name, is_assign}
+use Rattle.ruby_grammar.specs.Terminals.{units, products, sums, comparisons, equalities, conjunctions, disjunctions}
+use Rattle.ruby_grammar.specs.Terminals.{terminal}
+use Rattle.ruby_grammar.specs.Terminals.{is_variable, is_ivar, is_name, is_assign}
 use Rattle.ruby_grammar.specs.Rules.{ruby, Val, Sort, Around, Scope, an_expression, a_statement, simple_statement}
 use Rattle.ruby_grammar.specs.Rules.{expression, operators, unary, postfix, primary, name_rest}
 use Rattle.ruby_grammar.specs.Language.{ruby_grammar}
 use Rattle.ruby_grammar.specs.Choices.{next_is, pick, ruby_choices, pick_set_ivar}
 use Rattle.ruby_grammar.specs.Expressions as e
 use Rattle.ruby_grammar.specs.Statements as s
-use Rattle.ruby_grammar.proofs.Tools.{sign_is, or_true, and_true}
+use Rattle.ruby_grammar.proofs.Tools.{terminal_is, or_true, and_true}
 
 -- a variable or an instance variable
 abbrev pub Starts : Word → Type 0
-Starts w = (sign w ≡ 0) ⊎ (sign w ≡ 52)
+Starts w = (terminal w ≡ 0) ⊎ (terminal w ≡ 52)
 
 pub starts_by : (w : Word) → (is_variable w || is_ivar w) ≡ true → Starts w
 starts_by w h = elim (or_true (is_variable w) (is_ivar w) h) [
-  | inl v ↦ inl (sign_is 0 w (and_true (is_name w) _ v).0)
-  | inr i ↦ inr (sign_is 52 w i)
+  | inl v ↦ inl (terminal_is 0 w (and_true (is_name w) _ v).0)
+  | inr i ↦ inr (terminal_is 52 w i)
 ]
 
 abbrev Move : {t : Sort} → Prod ruby t → List Word → Type 0

@@ -1,11 +1,11 @@
--- Alternatives in lists, and signs of words.
+-- Alternatives in lists, and terminals of words.
 use Rattle.std.proofs.Common.{◌≡◌, ◌⊎◌, inl, inr, ℕ, zero, suc, Bool, true, false, ◌||◌, ◌&&◌, not, List, [], ◌∷◌, ◌++◌}
 use Rattle.std.proofs.Common.{refl, if◌then◌else◌}
 use Rattle.std.proofs.lemmas.Bool.{eqb-true}
 use Rattle.descent.specs.Grammar.{Prod, Among, first, later}
 use Rattle.descent.specs.Reading.{Choice, take, too_deep, barred, nothing}
 use Rattle.ruby_grammar.specs.Words.{Word}
-use Rattle.ruby_grammar.specs.Signs.{sign, is}
+use Rattle.ruby_grammar.specs.Terminals.{terminal, is}
 use Rattle.ruby_grammar.specs.Rules.{ruby, Sort}
 use Rattle.ruby_grammar.specs.Expressions.{opening}
 use Rattle.ruby_grammar.specs.Choices.{deepen}
@@ -53,8 +53,8 @@ pub fine_deepen : {s : Sort} (bar : Type 0) (ps : List (Prod ruby s)) (levels : 
 fine_deepen bar ps zero f h = tt
 fine_deepen bar ps (suc n) f h = h (f n) first
 
-pub sign_is : (n : ℕ) (w : Word) → is n w ≡ true → sign w ≡ n
-sign_is n w t = eqb-true (sign w) n t
+pub terminal_is : (n : ℕ) (w : Word) → is n w ≡ true → terminal w ≡ n
+terminal_is n w t = eqb-true (terminal w) n t
 
 pub or_false : (a b : Bool) → (a || b) ≡ false → (a ≡ false) × (b ≡ false)
 or_false true b h = cc

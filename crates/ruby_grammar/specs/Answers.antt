@@ -3,7 +3,7 @@ use Rattle.std.specs.Prelude.{ℕ, false, List, [], ◌∷◌, if◌then◌else�
 use Rattle.descent.specs.Grammar.{only}
 use Rattle.descent.specs.Reading.{Outcome, done, fault, Unexpected, Deep, Barred, Twice, Reads}
 use Rattle.ruby_grammar.specs.Words.{Word}
-use Rattle.ruby_grammar.specs.Signs.{is_left_out}
+use Rattle.ruby_grammar.specs.Terminals.{is_left_out}
 use Rattle.ruby_grammar.specs.Rules.{ruby, a_tree, file}
 use Rattle.ruby_grammar.specs.Language.{ruby_grammar, most_levels}
 use Rattle.ruby_grammar.specs.Choices.{ruby_choices}

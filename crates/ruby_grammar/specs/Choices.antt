@@ -7,12 +7,12 @@ use Rattle.ruby_types.specs.declared.tree.Stmt.{Stmt}
 use Rattle.descent.specs.Grammar.{Prod, give, token, call, only}
 use Rattle.descent.specs.Reading.{Choice, Choices, take, too_deep, barred, nothing}
 use Rattle.ruby_grammar.specs.Words.{Word}
-use Rattle.ruby_grammar.specs.Signs.{Level, units, is_operator, is_name, is_module, is_class, is_def, is_end, is_if}
-use Rattle.ruby_grammar.specs.Signs.{is_elsif, is_else, is_unless, is_then, is_return, is_self, is_nil, is_true}
-use Rattle.ruby_grammar.specs.Signs.{is_false, is_raise, is_include, is_attr_reader, is_line, is_const, is_ivar}
-use Rattle.ruby_grammar.specs.Signs.{is_label, is_sym, is_int, is_text_open, is_text_piece, is_inside_open, is_not}
-use Rattle.ruby_grammar.specs.Signs.{is_less, is_minus, is_ask, is_path, is_dot, is_comma, is_assign, is_open_paren}
-use Rattle.ruby_grammar.specs.Signs.{is_open_bracket, is_open_brace, is_tight_paren, is_tight_bracket, is_variable}
+use Rattle.ruby_grammar.specs.Terminals.{Level, units, is_operator, is_name, is_module, is_class, is_def, is_end, is_if}
+use Rattle.ruby_grammar.specs.Terminals.{is_elsif, is_else, is_unless, is_then, is_return, is_self, is_nil, is_true}
+use Rattle.ruby_grammar.specs.Terminals.{is_false, is_raise, is_include, is_attr_reader, is_line, is_const, is_ivar}
+use Rattle.ruby_grammar.specs.Terminals.{is_label, is_sym, is_int, is_text_open, is_text_piece, is_inside_open, is_not}
+use Rattle.ruby_grammar.specs.Terminals.{is_less, is_minus, is_ask, is_path, is_dot, is_comma, is_assign, is_open_paren}
+use Rattle.ruby_grammar.specs.Terminals.{is_open_bracket, is_open_brace, is_tight_paren, is_tight_bracket, is_variable}
 use Rattle.ruby_grammar.specs.Marks.{Mark}
 use Rattle.ruby_grammar.specs.Rules.{opened_path, PathOpening}
 use Rattle.ruby_grammar.specs.Rules.{ruby, Name, Path, Body, Known, Around, Scope, Block, Sort, Rule, a_def, some_names}

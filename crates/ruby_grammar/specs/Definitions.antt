@@ -4,9 +4,10 @@ use Rattle.ruby_types.specs.declared.tree.Def.{Def}
 use Rattle.ruby_types.specs.declared.tree.Def.TheVariants as def
 use Rattle.descent.specs.Grammar.{Prod, give, token, call, mark, only}
 use Rattle.ruby_grammar.specs.Words.{Word}
-use Rattle.ruby_grammar.specs.Signs.{is_name, is_module, is_class, is_def, is_end, is_self, is_include, is_attr_reader}
-use Rattle.ruby_grammar.specs.Signs.{is_line, is_const, is_sym, is_less, is_dot, is_comma, is_assign, is_open_paren}
-use Rattle.ruby_grammar.specs.Signs.{is_close_paren, is_path, is_variable, is_new_parameter}
+use Rattle.ruby_grammar.specs.Terminals.{is_name, is_module, is_class, is_def, is_end, is_self, is_include}
+use Rattle.ruby_grammar.specs.Terminals.{is_attr_reader}
+use Rattle.ruby_grammar.specs.Terminals.{is_line, is_const, is_sym, is_less, is_dot, is_comma, is_assign, is_open_paren}
+use Rattle.ruby_grammar.specs.Terminals.{is_close_paren, is_path, is_variable, is_new_parameter}
 use Rattle.ruby_grammar.specs.Marks.{Mark, Act, assigns, opens_module, opens_class, gives_parent, defines}
 use Rattle.ruby_grammar.specs.Rules.{ruby, Name, Path, Body, Heading, PathOpening, Rule, a_tree, some_defs, a_def}
 use Rattle.ruby_grammar.specs.Rules.{a_heading, some_names}

@@ -5,12 +5,14 @@ use Rattle.ruby_types.specs.declared.tree.Expr.TheVariants as expr
 use Rattle.ruby_types.specs.declared.tree.Part.{Part}
 use Rattle.ruby_types.specs.declared.tree.Part.TheVariants as part
 use Rattle.descent.specs.Grammar.{Prod, give, token, call, mark, only}
-use Rattle.ruby_grammar.specs.Signs.{Level, units, disjunctions, tighter, is_operator, repeats, is_name, is_not}
-use Rattle.ruby_grammar.specs.Signs.{is_minus, is_ask, is_colon, is_dot, is_path, is_const, is_comma, is_arrow, is_int}
-use Rattle.ruby_grammar.specs.Signs.{is_text_open, is_text_piece, is_text_close, is_inside_open, is_inside_close}
-use Rattle.ruby_grammar.specs.Signs.{is_sym, is_label, is_ivar, is_nil, is_true, is_false, is_self, is_open_paren}
-use Rattle.ruby_grammar.specs.Signs.{is_close_paren, is_open_bracket, is_close_bracket, is_open_brace, is_close_brace}
-use Rattle.ruby_grammar.specs.Signs.{is_tight_paren, is_tight_bracket}
+use Rattle.ruby_grammar.specs.Terminals.{Level, units, disjunctions, tighter, is_operator, repeats, is_name, is_not}
+use Rattle.ruby_grammar.specs.Terminals.{is_minus, is_ask, is_colon, is_dot, is_path, is_const, is_comma, is_arrow}
+use Rattle.ruby_grammar.specs.Terminals.{is_int}
+use Rattle.ruby_grammar.specs.Terminals.{is_text_open, is_text_piece, is_text_close, is_inside_open, is_inside_close}
+use Rattle.ruby_grammar.specs.Terminals.{is_sym, is_label, is_ivar, is_nil, is_true, is_false, is_self, is_open_paren}
+use Rattle.ruby_grammar.specs.Terminals.{is_close_paren, is_open_bracket, is_close_bracket, is_open_brace}
+use Rattle.ruby_grammar.specs.Terminals.{is_close_brace}
+use Rattle.ruby_grammar.specs.Terminals.{is_tight_paren, is_tight_bracket}
 use Rattle.ruby_grammar.specs.Marks.{Mark}
 use Rattle.ruby_grammar.specs.Rules.{ruby, Name, Sort, Scope, an_expression, some_expressions, some_pairs, a_pair}
 use Rattle.ruby_grammar.specs.Rules.{some_parts, a_constant, some_names}

@@ -6,7 +6,7 @@ use Rattle.ruby_token.specs.declared.fault.LexKind.{LexKind}
 use Rattle.ruby_token.specs.Cut.{Lexes, done, fault}
 use Rattle.descent.specs.Faults.{Begins, Stops, Clashes, NoClash}
 use Rattle.ruby_grammar.specs.Words.{Word, words_of}
-use Rattle.ruby_grammar.specs.Signs.{is_left_out}
+use Rattle.ruby_grammar.specs.Terminals.{is_left_out}
 use Rattle.ruby_grammar.specs.Marks.{Mark}
 use Rattle.ruby_grammar.specs.Rules.{file}
 use Rattle.ruby_grammar.specs.Language.{ruby_grammar, IsFile, most_levels}

@@ -2,10 +2,12 @@
 use Rattle.std.specs.Prelude.{Bool, true, false, ◌||◌, not, Option, Some, None}
 use Rattle.descent.specs.Lawful.{Follow}
 use Rattle.ruby_grammar.specs.Words.{Word}
-use Rattle.ruby_grammar.specs.Signs.{Level, units, products, sums, comparisons, equalities, conjunctions, disjunctions}
-use Rattle.ruby_grammar.specs.Signs.{is_operator, is_end, is_if, is_elsif, is_else, is_unless, is_line, is_ivar, is_ask}
-use Rattle.ruby_grammar.specs.Signs.{is_path, is_dot, is_comma, is_close_paren, is_close_bracket, is_close_brace}
-use Rattle.ruby_grammar.specs.Signs.{is_text_close, is_tight_paren, is_tight_bracket, is_variable}
+use Rattle.ruby_grammar.specs.Terminals.{Level, units, products, sums, comparisons, equalities, conjunctions}
+use Rattle.ruby_grammar.specs.Terminals.{disjunctions}
+use Rattle.ruby_grammar.specs.Terminals.{is_operator, is_end, is_if, is_elsif, is_else, is_unless, is_line, is_ivar}
+use Rattle.ruby_grammar.specs.Terminals.{is_ask}
+use Rattle.ruby_grammar.specs.Terminals.{is_path, is_dot, is_comma, is_close_paren, is_close_bracket, is_close_brace}
+use Rattle.ruby_grammar.specs.Terminals.{is_text_close, is_tight_paren, is_tight_bracket, is_variable}
 use Rattle.ruby_grammar.specs.Choices.{next_is}
 use Rattle.ruby_grammar.specs.Rules.{ruby, Rule, Sort, file, definitions, more_definitions, definition, path_rest}
 use Rattle.ruby_grammar.specs.Rules.{parent, constant, heading, parameter_list, parameters, more_parameters}

@@ -1,5 +1,5 @@
 pub mod Words
-pub mod Signs
+pub mod Terminals
 pub mod Marks
 pub mod Rules
 pub mod Values

@@ -2,7 +2,7 @@
 use Rattle.std.specs.Prelude.{◌≡◌, true, List, [], ◌∷◌}
 use Rattle.ruby_token.specs.Number.{is_in_range}
 use Rattle.ruby_grammar.specs.Words.{Word}
-use Rattle.ruby_grammar.specs.Signs.{is_int}
+use Rattle.ruby_grammar.specs.Terminals.{is_int}
 
 -- each number among the words is from -2^63 to 2^63 - 1
 abbrev pub NumbersFit : List Word → Type 0

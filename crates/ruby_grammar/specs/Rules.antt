@@ -8,7 +8,7 @@ use Rattle.ruby_types.specs.declared.tree.Part.{Part}
 use Rattle.ruby_types.specs.declared.tree.ConstRef.{ConstRef}
 use Rattle.descent.specs.Grammar.{Signs}
 use Rattle.ruby_grammar.specs.Words.{Word}
-use Rattle.ruby_grammar.specs.Signs.{Level}
+use Rattle.ruby_grammar.specs.Terminals.{Level}
 use Rattle.ruby_grammar.specs.Marks.{Mark, Act}
 
 abbrev pub Name : Type 0

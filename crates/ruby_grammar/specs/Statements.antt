@@ -5,8 +5,9 @@ use Rattle.ruby_types.specs.declared.tree.Expr.TheVariants as expr
 use Rattle.ruby_types.specs.declared.tree.Stmt.{Stmt}
 use Rattle.ruby_types.specs.declared.tree.Stmt.TheVariants as stmt
 use Rattle.descent.specs.Grammar.{Prod, give, token, call, only}
-use Rattle.ruby_grammar.specs.Signs.{is_variable, is_ivar, is_assign, is_return, is_raise, is_if, is_unless, is_elsif}
-use Rattle.ruby_grammar.specs.Signs.{is_else, is_end, is_then, is_line}
+use Rattle.ruby_grammar.specs.Terminals.{is_variable, is_ivar, is_assign, is_return, is_raise, is_if, is_unless}
+use Rattle.ruby_grammar.specs.Terminals.{is_elsif}
+use Rattle.ruby_grammar.specs.Terminals.{is_else, is_end, is_then, is_line}
 use Rattle.ruby_grammar.specs.Rules.{ruby, Name, Known, Block, Around, Scope, a_statement, a_block, no_value}
 use Rattle.ruby_grammar.specs.Rules.{perhaps_an_expression}
 use Rattle.ruby_grammar.specs.Rules.{statements, more_statements, statement, simple_statement, condition_behind}

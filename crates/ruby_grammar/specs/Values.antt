@@ -5,7 +5,7 @@ use Rattle.ruby_token.specs.Number.{magnitude}
 use Rattle.ruby_types.specs.declared.tree.Expr.{Expr}
 use Rattle.ruby_types.specs.declared.tree.Expr.TheVariants as expr
 use Rattle.ruby_grammar.specs.Words.{Word}
-use Rattle.ruby_grammar.specs.Signs.{is, has}
+use Rattle.ruby_grammar.specs.Terminals.{is, has}
 use Rattle.ruby_grammar.specs.Rules.{Name}
 
 -- the number that is written so, perhaps with a `-` before it

@@ -11,7 +11,7 @@ use Rattle.ruby_token.specs.declared.token.Token.{Token}
 use Rattle.ruby_token.specs.declared.token.TokenKind.{TokenKind}
 use Rattle.ruby_token.specs.declared.token.TokenKind.TheVariants as k
 use Rattle.ruby_grammar.specs.Words.{Word, words_behind}
-use Rattle.ruby_grammar.specs.Signs.{kind_sign, is_assign}
+use Rattle.ruby_grammar.specs.Terminals.{kind_terminal, is_assign}
 use Rattle.ruby_grammar.specs.Choices.{next_is}
 use Rattle.ruby_parse_cursor.proofs.Codes.{name_is_low}
 
@@ -20,7 +20,7 @@ low n h = grind (arith, nat_tests)
 
 -- What is no operator is no `=`.
 pub no_assign : (kind : TokenKind) (text : List ℕ) → ((op : Op) → kind ≡ k.Op op → ⊥) →
-    false ≡ (kind_sign kind text == 89)
+    false ≡ (kind_terminal kind text == 89)
 no_assign k.Line text h = refl
 no_assign k.Name text h = low _ (name_is_low text)
 no_assign k.Const text h = refl
@@ -49,7 +49,7 @@ second_word bytes before (t ∷ ts) ws seen e h s =
 
 -- What is known of the first token is known of the first word.
 pub first_word : (none : Token) (tokens : List Token) (seen : Bool) → 1 ≤ length tokens →
-    ((text : List ℕ) → seen ≡ (kind_sign (get_or tokens 0 none).kind text == 89)) →
+    ((text : List ℕ) → seen ≡ (kind_terminal (get_or tokens 0 none).kind text == 89)) →
     (bytes : List ℕ) (before : ℕ) → seen ≡ next_is is_assign (head (words_behind bytes before tokens))
 first_word none [] seen h s bytes before = absurd (omega (arith, h))
 first_word none (t ∷ ts) seen h s bytes before = s (text_of bytes t)

@@ -6,7 +6,7 @@ use Rattle.std.proofs.lemmas.Bool.{cases_Bool, cond-true, cond-false}
 use Rattle.std.proofs.lemmas.Bool.Decides.{nat_tests}
 use Rattle.descent.specs.Reading.{head}
 use Rattle.ruby_grammar.specs.Words.{Word}
-use Rattle.ruby_grammar.specs.Signs.{sign, is}
+use Rattle.ruby_grammar.specs.Terminals.{terminal, is}
 use Rattle.ruby_grammar.specs.Choices.{next_is}
 use Rattle.ruby_parse_cursor.specs.Views.{head_terminal, code_view}
 
@@ -36,7 +36,7 @@ code_is n c e =
 -- the word at hand has this code, so it is this word
 pub sees_code : (ws : List Word) (c : ℕ) → code_view (head_terminal ws) ≡ Some c → next_is (is c) (head ws) ≡ true
 sees_code [] c e = none_some c e
-sees_code (w ∷ ws) c e = subst (λ n. (n == c) ≡ true) (sym (code_is (sign w) c e)) (alike c)
+sees_code (w ∷ ws) c e = subst (λ n. (n == c) ≡ true) (sym (code_is (terminal w) c e)) (alike c)
 
 -- the word at hand has another code or none, so it isn't this word
 pub lacks_code : (ws : List Word) (c : ℕ) → is_code c ≡ true → (code_view (head_terminal ws) ≡ Some c → ⊥) →
@@ -44,12 +44,12 @@ pub lacks_code : (ws : List Word) (c : ℕ) → is_code c ≡ true → (code_vie
 lacks_code [] c y h = refl
 lacks_code (w ∷ ws) c y h =
     ⊎_elim
-    (λ e. absurd (h (ap code_view (same (sign w) c e) ∙ cond-true (is_code c) (Some c) None y)))
+    (λ e. absurd (h (ap code_view (same (terminal w) c e) ∙ cond-true (is_code c) (Some c) None y)))
     (λ o. o)
-    (cases_Bool (sign w == c))
+    (cases_Bool (terminal w == c))
 
 -- the word at hand has another code, so it isn't this word
 pub other_code : (ws : List Word) (c d : ℕ) → code_view (head_terminal ws) ≡ Some c → (c == d) ≡ false →
     next_is (is d) (head ws) ≡ false
 other_code [] c d e h = refl
-other_code (w ∷ ws) c d e h = subst (λ n. (n == d) ≡ false) (sym (code_is (sign w) c e)) h
+other_code (w ∷ ws) c d e h = subst (λ n. (n == d) ≡ false) (sym (code_is (terminal w) c e)) h

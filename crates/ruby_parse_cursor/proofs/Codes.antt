@@ -8,7 +8,7 @@ use Rattle.std.specs.Prelude.{bytes_eq, nat_lt}
 use Rattle.std.proofs.Common.{⊎_elim, ◌<◌, cond, false, lit<}
 use Rattle.case_table.specs.Rows.{HasCode, HasNone}
 use Rattle.ruby_words.specs.Words.{word_rows}
-use Rattle.ruby_grammar.specs.Signs.{code_in, name_sign}
+use Rattle.ruby_grammar.specs.Terminals.{code_in, name_terminal}
 
 abbrev Row : Type 0
 Row = List ℕ × ℕ
@@ -39,7 +39,7 @@ words_are_found = refl
 
 -- The code that a row of the table gives is the terminal of the name.
 pub has_code : (rows : List Row) (name : List ℕ) (code : ℕ) → rows ≡ word_rows → HasCode rows name code →
-    code ≡ name_sign name
+    code ≡ name_terminal name
 has_code rows name code e h =
     let get : slice_get word_rows h.0 ≡ Some (name, code) =
     subst (λ (l : List Row). slice_get l h.0 ≡ Some (name, code)) e h.1 in
@@ -54,7 +54,7 @@ none_in (x ∷ rows) name h =
     (cases_Bool (bytes_eq x.0 name))
 
 -- A name that no row has is no word.
-pub has_none : (rows : List Row) (name : List ℕ) → rows ≡ word_rows → HasNone rows name → 0 ≡ name_sign name
+pub has_none : (rows : List Row) (name : List ℕ) → rows ≡ word_rows → HasNone rows name → 0 ≡ name_terminal name
 has_none rows name e h = sym (none_in word_rows name (subst (λ (l : List Row). HasNone l name) e h))
 
 low_if : (b : Bool) (m n : ℕ) → m < 48 → n < 48 → cond b m n < 48
@@ -77,5 +77,5 @@ words_are_low : are_low word_rows ≡ true
 words_are_low = refl
 
 -- No name has a code above those of the words.
-pub name_is_low : (name : List ℕ) → name_sign name < 48
+pub name_is_low : (name : List ℕ) → name_terminal name < 48
 name_is_low name = low_in word_rows name words_are_low

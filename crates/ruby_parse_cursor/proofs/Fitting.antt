@@ -2,7 +2,7 @@
 use Rattle.std.proofs.Common.{◌≡◌, true, List, ◌∷◌, subst}
 use Rattle.ruby_token.specs.Number.{is_in_range}
 use Rattle.ruby_grammar.specs.Words.{Word}
-use Rattle.ruby_grammar.specs.Signs.{is_int}
+use Rattle.ruby_grammar.specs.Terminals.{is_int}
 use Rattle.ruby_grammar.specs.Choices.{next_is}
 use Rattle.descent.specs.Reading.{head}
 use Rattle.ruby_grammar.specs.Numbers.{NumbersFit}

@@ -4,7 +4,7 @@ use Rattle.std.proofs.Common.{true, ◌==◌, ◌||◌, ⊎_elim, arith}
 use Rattle.std.proofs.lemmas.Bool.{cases_Bool}
 use Rattle.std.proofs.lemmas.Bool.Decides.{nat_tests}
 use Rattle.ruby_token.specs.Bytes.{is_suffix}
-use Rattle.ruby_grammar.specs.Signs.{ends_in_suffix}
+use Rattle.ruby_grammar.specs.Terminals.{ends_in_suffix}
 
 at : (xs : List ℕ) (b n : ℕ) → length xs ≡ n → ends_in_suffix (b ∷ xs) ≡ is_suffix (get_or (b ∷ xs) n 0)
 at [] b zero e = refl

@@ -5,7 +5,7 @@ use Rattle.std.specs.BTreeSet as set
 use Rattle.std.specs.declared.cmp.Ordering.{Ordering}
 use Rattle.std.specs.Ordering.{nat_cmp}
 use Rattle.std.specs.Cmp.Lexicographic.{slice_cmp}
-use Rattle.ruby_grammar.specs.Signs.{has}
+use Rattle.ruby_grammar.specs.Terminals.{has}
 
 -- what is held, the latest first
 abbrev pub latest_first : {A : Type 0} → (A → List ℕ) → List A → List (List ℕ)

@@ -2,7 +2,7 @@
 use Rattle.std.specs.Prelude.{ℕ, Bool, ◌==◌, ◌&&◌, ◌||◌, nat_le, if◌then◌else◌, List, [], ◌∷◌, Option, Some, None}
 use Rattle.ruby_parse_cursor.specs.declared.word.Word.{Word as Held}
 use Rattle.ruby_grammar.specs.Words.{Word}
-use Rattle.ruby_grammar.specs.Signs.{sign}
+use Rattle.ruby_grammar.specs.Terminals.{terminal}
 
 -- the word that is held
 abbrev pub word_view : Held → Word
@@ -11,7 +11,7 @@ word_view w = record { kind = w.kind; text = w.text.now; tight = w.tight; at = w
 -- the terminal of the first word, and 98 where none is left
 abbrev pub head_terminal : List Word → ℕ
 head_terminal [] = 98
-head_terminal (w ∷ ws) = sign w
+head_terminal (w ∷ ws) = terminal w
 
 -- the code of a reserved or a left-out word, by its terminal
 abbrev pub code_view : ℕ → Option ℕ

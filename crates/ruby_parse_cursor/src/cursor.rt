@@ -9,7 +9,7 @@ ghost use Rattle.ruby_token.specs.Spans.{text_of};
 ghost use Rattle.ruby_grammar.specs.Words.{words_of, words_behind};
 ghost use Rattle.ruby_grammar.specs.Numbers.{NumbersFit};
 ghost use Rattle.ruby_grammar.specs.Values.{number_of};
-ghost use Rattle.ruby_grammar.specs.Signs.{is, is_assign, is_int, kind_sign};
+ghost use Rattle.ruby_grammar.specs.Terminals.{is, is_assign, is_int, kind_terminal};
 ghost use Rattle.ruby_grammar.specs.Choices.{next_is};
 ghost use Rattle.descent.specs.Reading.{head, second};
 ghost use Rattle.ruby_parse_cursor.specs.Views.{word_view, head_terminal, code_view};
@@ -75,7 +75,7 @@ fn first_terminal(bytes: &[u8], words: &CaseTable<47>, before: u32, tokens: &[To
 
 /// Whether a token of this kind is `=`, whatever its text.
 fn is_assign_kind(kind: TokenKind) -> bool
-    ensures { (text : List ℕ) → result ≡ (kind_sign kind text == 89) }
+    ensures { (text : List ℕ) → result ≡ (kind_terminal kind text == 89) }
 {
     match kind {
         TokenKind::Op(op) => operator_terminal(op) == ASSIGN,

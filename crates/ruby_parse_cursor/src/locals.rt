@@ -1,7 +1,7 @@
 //! The local variables of a method.
 
 ghost use Rattle.std.specs.Prelude.{◌≡◌, ◌∷◌, [], OnOk};
-ghost use Rattle.ruby_grammar.specs.Signs.{has};
+ghost use Rattle.ruby_grammar.specs.Terminals.{has};
 
 use std::alloc::{AllocError, Global};
 use std::collections::BTreeSet;

@@ -4,7 +4,7 @@
 ghost use Rattle.std.specs.Prelude.{◌≡◌};
 ghost use Rattle.ruby_token.specs.Spans.{text_of};
 ghost use Rattle.ruby_words.specs.Words.{word_rows};
-ghost use Rattle.ruby_grammar.specs.Signs as spec;
+ghost use Rattle.ruby_grammar.specs.Terminals as spec;
 ghost use Rattle.ruby_parse_cursor.specs.Views.{code_view, left_out_terminal, expression_terminal, statement_terminal};
 
 use crate::word::text_of;
@@ -106,7 +106,7 @@ pub const LEFT_OUT: u16 = 99;
 
 /// The terminal of an operator.
 pub fn operator_terminal(op: Op) -> u16
-    ensures { result ≡ spec.op_sign op }
+    ensures { result ≡ spec.op_terminal op }
 {
     match op {
         Op::OrElse => OR_ELSE,
@@ -143,7 +143,7 @@ pub fn operator_terminal(op: Op) -> u16
 
 fn name_terminal(words: &CaseTable<47>, text: &[u8]) -> u16
     requires { words.now ≡ word_rows }
-    ensures { result ≡ spec.name_sign text.now }
+    ensures { result ≡ spec.name_terminal text.now }
 {
     match code_of(words, text) {
         Some(code) => code,
@@ -154,7 +154,7 @@ fn name_terminal(words: &CaseTable<47>, text: &[u8]) -> u16
 /// The terminal of a token of these bytes. Only names are looked up.
 pub fn terminal_of(words: &CaseTable<47>, bytes: &[u8], token: Token) -> u16
     requires { words.now ≡ word_rows }
-    ensures { result ≡ spec.kind_sign token.kind (text_of bytes.now token) }
+    ensures { result ≡ spec.kind_terminal token.kind (text_of bytes.now token) }
 {
     match token.kind {
         TokenKind::Line => LINE,

@@ -2,7 +2,7 @@
 
 ghost use Rattle.std.specs.Prelude.{◌≡◌, drop};
 ghost use Rattle.ruby_token.specs.Spans.{text_of};
-ghost use Rattle.ruby_grammar.specs.Signs as terminals;
+ghost use Rattle.ruby_grammar.specs.Terminals as terminals;
 ghost use Rattle.ruby_grammar.specs.Values as values;
 
 use ruby_token::{Token, TokenKind};

@@ -10,7 +10,7 @@ use Rattle.ruby_types.specs.declared.tree.Def.{Def}
 use Rattle.ruby_types.specs.declared.tree.Def.TheVariants as def
 use Rattle.ruby_types.specs.declared.tree.FileTree.{FileTree}
 use Rattle.ruby_grammar.specs.Words.{Word}
-use Rattle.ruby_grammar.specs.Signs.{is_module, is_class, is_end, is_line}
+use Rattle.ruby_grammar.specs.Terminals.{is_module, is_class, is_end, is_line}
 use Rattle.ruby_grammar.specs.Rules.{ruby, Path, Body, a_tree, a_def, some_defs, file, definitions, more_definitions}
 use Rattle.ruby_grammar.specs.Rules.{definition}
 use Rattle.ruby_grammar.specs.Definitions.{body, file_from, definition_then, module_from, class_from}

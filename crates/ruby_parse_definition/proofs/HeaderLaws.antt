@@ -8,7 +8,7 @@ use Rattle.ruby_types.specs.declared.tree.ConstRef.{ConstRef}
 use Rattle.ruby_types.specs.declared.tree.Def.TheVariants as def
 use Rattle.ruby_grammar.specs.Words.{Word}
 use Rattle.ruby_grammar.specs.Marks.{Mark, Act, opens_module, opens_class, gives_parent}
-use Rattle.ruby_grammar.specs.Signs.{is_module, is_class, is_line, is_less}
+use Rattle.ruby_grammar.specs.Terminals.{is_module, is_class, is_line, is_less}
 use Rattle.ruby_grammar.specs.Rules.{ruby, Path, Sort, a_def, a_parent, a_constant, parent, constant}
 use Rattle.ruby_grammar.specs.Definitions as spec
 use Rattle.ruby_grammar.specs.Definitions.{body, counts, at_top, module_from, class_from}

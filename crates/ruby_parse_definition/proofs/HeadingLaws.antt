@@ -5,7 +5,7 @@ use Rattle.descent.specs.Grammar.{Prod, give, token, mark, only}
 use Rattle.descent.specs.Reading.{head}
 use Rattle.ruby_grammar.specs.Words.{Word}
 use Rattle.ruby_grammar.specs.Marks.{Mark, defines}
-use Rattle.ruby_grammar.specs.Signs.{is_name, is_self, is_dot}
+use Rattle.ruby_grammar.specs.Terminals.{is_name, is_self, is_dot}
 use Rattle.ruby_grammar.specs.Rules.{ruby, Name, Path, Heading, a_heading, heading}
 use Rattle.ruby_grammar.specs.Definitions.{counts, method_name, singleton_heading}
 use Rattle.ruby_grammar.specs.Choices.{next_is}

@@ -10,8 +10,8 @@ use Rattle.ruby_types.specs.declared.tree.Def.TheVariants as def
 use Rattle.ruby_types.specs.declared.tree.Expr.{Expr}
 use Rattle.ruby_grammar.specs.Words.{Word}
 use Rattle.ruby_grammar.specs.Marks.{Mark, assigns, defines}
-use Rattle.ruby_grammar.specs.Signs.{is_const, is_module, is_class, is_assign, is_include, is_attr_reader, is_def}
-use Rattle.ruby_grammar.specs.Signs.{is_sym, is_comma}
+use Rattle.ruby_grammar.specs.Terminals.{is_const, is_module, is_class, is_assign, is_include, is_attr_reader, is_def}
+use Rattle.ruby_grammar.specs.Terminals.{is_sym, is_comma}
 use Rattle.ruby_grammar.specs.Rules.{ruby, Name, Path, Body, Sort, a_def, a_constant, an_expression, some_names}
 use Rattle.ruby_grammar.specs.Rules.{definition, constant, expression, more_readers}
 use Rattle.ruby_grammar.specs.Values.{behind_sign}
@@ -51,10 +51,10 @@ module _ (n : ℕ) (outer : Path) (ms : Noted) (ws : List Word) where
     to_assign : Leads {s = a_def} (assign_from here) ms ws (assign_then w) ms mid
     to_assign = word {s = a_def} is_const assign_then w ms ws mid e t
 
-    pub assign_lacks_sign : (e : Fault) (ns : Noted) (rest : List Word) → rest ≡ mid →
+    pub assign_lacks_terminal : (e : Fault) (ns : Noted) (rest : List Word) → rest ≡ mid →
         next_is is_assign (head mid) ≡ false → e ≡ f.Unexpected →
         GivesMarked {s = a_def} (assign_from here) ms ws (Err e) ns rest
-    assign_lacks_sign e ns rest s q u = stop {s = a_def} _ _ ms ms ws mid rest e to_assign
+    assign_lacks_terminal e ns rest s q u = stop {s = a_def} _ _ ms ms ws mid rest e to_assign
         (lacks {s = a_def} is_assign (λ _. counted_value (outer ++ w.text ∷ []) w) ms mid rest e s q u)
 
     module _ (behind : List Word) (q : next_is is_assign (head mid) ≡ true) (d : behind ≡ drop 1 mid) (full : Path)

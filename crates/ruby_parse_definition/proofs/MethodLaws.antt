@@ -9,7 +9,7 @@ use Rattle.ruby_types.specs.declared.tree.Def.TheVariants as def
 use Rattle.ruby_types.specs.declared.tree.Stmt.{Stmt}
 use Rattle.ruby_grammar.specs.Words.{Word}
 use Rattle.ruby_grammar.specs.Marks.{Mark}
-use Rattle.ruby_grammar.specs.Signs.{is_def, is_end, is_line, is_open_paren, is_close_paren}
+use Rattle.ruby_grammar.specs.Terminals.{is_def, is_end, is_line, is_open_paren, is_close_paren}
 use Rattle.ruby_grammar.specs.Rules.{ruby, Name, Heading, a_def, a_block, a_heading, some_names, heading}
 use Rattle.ruby_grammar.specs.Rules.{parameters, parameter_list, statements}
 use Rattle.ruby_grammar.specs.Statements.{block, around}

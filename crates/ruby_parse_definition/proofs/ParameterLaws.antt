@@ -10,7 +10,7 @@ use Rattle.descent.specs.Grammar.{Prod, give, token, only}
 use Rattle.descent.specs.Reading.{head}
 use Rattle.ruby_grammar.specs.Words.{Word}
 use Rattle.ruby_grammar.specs.Marks.{Mark}
-use Rattle.ruby_grammar.specs.Signs.{is_comma, is_variable, has, is_new_parameter}
+use Rattle.ruby_grammar.specs.Terminals.{is_comma, is_variable, has, is_new_parameter}
 use Rattle.ruby_grammar.specs.Rules.{ruby, Name, some_names, parameters, more_parameters}
 use Rattle.ruby_grammar.specs.Definitions.{parameter_more}
 use Rattle.ruby_grammar.specs.Choices.{next_is}

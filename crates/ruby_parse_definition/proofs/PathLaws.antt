@@ -10,7 +10,7 @@ use Rattle.descent.specs.Reading.{by_bar, by_nothing}
 use Rattle.descent.proofs.Laws.{take_is}
 use Rattle.ruby_grammar.specs.Words.{Word}
 use Rattle.ruby_grammar.specs.Marks.{Mark, Act}
-use Rattle.ruby_grammar.specs.Signs.{is_path, is_const}
+use Rattle.ruby_grammar.specs.Terminals.{is_path, is_const}
 use Rattle.ruby_grammar.specs.Rules.{ruby, Path, PathOpening, Sort, Rule, some_names, path_rest}
 use Rattle.ruby_grammar.specs.Rules.{opened_path}
 use Rattle.ruby_grammar.specs.Expressions.{path_more}

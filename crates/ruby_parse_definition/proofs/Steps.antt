@@ -8,7 +8,7 @@ use Rattle.descent.specs.Reading.{take, too_deep, nothing, head, choose, done, f
 use Rattle.descent.specs.Reading.{by_give, by_word, by_depth, by_nothing}
 use Rattle.ruby_grammar.specs.Words.{Word}
 use Rattle.ruby_grammar.specs.Marks.{Mark}
-use Rattle.ruby_grammar.specs.Signs.{is, sign}
+use Rattle.ruby_grammar.specs.Terminals.{is, terminal}
 use Rattle.ruby_grammar.specs.Rules.{ruby, Sort, Val, Rule}
 use Rattle.ruby_grammar.specs.Choices.{ruby_choices, next_is}
 use Rattle.ruby_parse_cursor.specs.declared.fault.Fault.{Fault}
@@ -75,14 +75,14 @@ pub breaks_quietly : {s v : Sort} (rule : Rule v) (next : Val v → Prod ruby s)
     (e : Fault) → GivesRule {s = v} rule ws (Err e) rest → Stops (call rule next) ms ws e rest
 breaks_quietly rule next ms ws rest e g = stops_call rule next ms ws rest e (g ms)
 
--- ---- words of two signs
+-- ---- words of two terminals
 is_same : (m n : ℕ) → (m == n) ≡ true → m ≡ n
 is_same m n h = grind (arith, nat_tests)
 
 pub apart : (m n : ℕ) (ws : List Word) → (m == n) ≡ false → next_is (is m) (head ws) ≡ true →
     next_is (is n) (head ws) ≡ false
 apart m n [] d p = refl
-apart m n (w ∷ ws) d p = subst (λ k. (k == n) ≡ false) (sym (is_same (sign w) m p)) d
+apart m n (w ∷ ws) d p = subst (λ k. (k == n) ≡ false) (sym (is_same (terminal w) m p)) d
 
 -- ---- lengths
 pub skip_falls : (test : Word → Bool) (ws mid : List Word) → next_is test (head ws) ≡ true → mid ≡ drop 1 ws →

@@ -7,7 +7,7 @@ use Rattle.ruby_types.specs.declared.tree.Def.{Def}
 use Rattle.ruby_types.specs.declared.tree.Def.TheVariants as def
 use Rattle.ruby_types.specs.declared.tree.Stmt.{Stmt}
 use Rattle.ruby_grammar.specs.Words.{Word}
-use Rattle.ruby_grammar.specs.Signs.{is_end, is_const, is_sym}
+use Rattle.ruby_grammar.specs.Terminals.{is_end, is_const, is_sym}
 use Rattle.ruby_grammar.specs.Marks.{Mark, Act}
 use Rattle.ruby_grammar.specs.Rules.{ruby, Name, Path, Body, PathOpening, Around, Heading, Sort, a_def, some_names}
 use Rattle.ruby_grammar.specs.Rules.{opened_path, definitions, statements}

@@ -6,7 +6,7 @@ ghost use Rattle.ruby_grammar.specs.Choices.{next_is};
 ghost use Rattle.ruby_grammar.specs.Definitions as spec;
 ghost use Rattle.ruby_grammar.specs.Definitions.{body};
 ghost use Rattle.ruby_grammar.specs.Rules as rules;
-ghost use Rattle.ruby_grammar.specs.Signs.{is_const, is_module, is_class};
+ghost use Rattle.ruby_grammar.specs.Terminals.{is_const, is_module, is_class};
 ghost use Rattle.ruby_parse_marks.specs.Views.{SameBodies};
 ghost use Rattle.ruby_parse_definition.specs.Answers.{GivesMarked, GivesMarkedRule};
 ghost use Rattle.ruby_parse_definition.specs.Parts.{GivesReader};

@@ -3,7 +3,7 @@
 ghost use Rattle.std.specs.Prelude.{◌≡◌, ◌≤◌, ◌∷◌, ◌++◌, [], true, false, length, IfOk, IfErr, OnErr};
 ghost use Rattle.descent.specs.Reading.{head};
 ghost use Rattle.ruby_grammar.specs.Choices.{next_is};
-ghost use Rattle.ruby_grammar.specs.Signs.{has, is_new_parameter};
+ghost use Rattle.ruby_grammar.specs.Terminals.{has, is_new_parameter};
 ghost use Rattle.ruby_grammar.specs.Rules as rules;
 ghost use Rattle.ruby_parse_cursor.specs.Views.{word_view};
 ghost use Rattle.ruby_parse_steps.specs.Gives.{GivesRule};

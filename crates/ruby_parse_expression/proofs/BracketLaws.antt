@@ -9,8 +9,9 @@ use Rattle.ruby_types.specs.declared.tree.Expr.{Expr}
 use Rattle.ruby_types.specs.declared.tree.Expr.TheVariants as expr
 use Rattle.ruby_types.specs.declared.tree.ConstRef.{ConstRef}
 use Rattle.ruby_grammar.specs.Words.{Word}
-use Rattle.ruby_grammar.specs.Signs.{is, sign, is_const, is_path, is_open_bracket, is_close_bracket, is_open_brace}
-use Rattle.ruby_grammar.specs.Signs.{is_close_brace, is_open_paren, is_close_paren}
+use Rattle.ruby_grammar.specs.Terminals.{is, terminal, is_const, is_path, is_open_bracket, is_close_bracket}
+use Rattle.ruby_grammar.specs.Terminals.{is_open_brace}
+use Rattle.ruby_grammar.specs.Terminals.{is_close_brace, is_open_paren, is_close_paren}
 use Rattle.ruby_grammar.specs.Rules.{ruby, Scope, an_expression, some_expressions, some_pairs, a_constant, primary}
 use Rattle.ruby_grammar.specs.Rules.{constant, members, pairs, expression}
 use Rattle.ruby_grammar.specs.Expressions.{at_levels, array_from, hash_from, group_from, constant_alone, constant_from}
@@ -33,15 +34,15 @@ either true b e = inl refl
 either false b e = inr e
 
 -- the first word's terminal, where it passes
-pub sign_is : (n : ℕ) (ws : List Word) → next_is (is n) (head ws) ≡ true → head_terminal ws ≡ n
-sign_is n [] p = absurd (cc)
-sign_is n (w ∷ ws) p = is_same (sign w) n p
+pub terminal_is : (n : ℕ) (ws : List Word) → next_is (is n) (head ws) ≡ true → head_terminal ws ≡ n
+terminal_is n [] p = absurd (cc)
+terminal_is n (w ∷ ws) p = is_same (terminal w) n p
 
 -- and where it is a bracket that is no `[` and no `{`
-other_sign : (n : ℕ) (ws : List Word) → (98 == n) ≡ false → next_is (is n) (head ws) ≡ false →
+other_terminal : (n : ℕ) (ws : List Word) → (98 == n) ≡ false → next_is (is n) (head ws) ≡ false →
     (head_terminal ws == n) ≡ false
-other_sign n [] o p = o
-other_sign n (w ∷ ws) o p = p
+other_terminal n [] o p = o
+other_terminal n (w ∷ ws) o p = p
 
 left_paren : (n : ℕ) → opens_bracket n ≡ true → (n == 93) ≡ false → (n == 95) ≡ false → n ≡ 91
 left_paren n h p q =
@@ -51,7 +52,7 @@ left_paren n h p q =
 -- A bracket that is neither `[` nor `{` is `(`.
 pub is_paren : (ws : List Word) → opens_bracket (head_terminal ws) ≡ true → next_is is_open_bracket (head ws) ≡ false →
     next_is is_open_brace (head ws) ≡ false → head_terminal ws ≡ 91
-is_paren ws h p q = left_paren (head_terminal ws) h (other_sign 93 ws refl p) (other_sign 95 ws refl q)
+is_paren ws h p q = left_paren (head_terminal ws) h (other_terminal 93 ws refl p) (other_terminal 95 ws refl q)
 
 module _ (here : Scope) (ws : List Word) where
   deep_array : here.levels ≡ 0 → head_terminal ws ≡ 93 → GivesRule (primary here) ws (Err f.Deep) ws
@@ -87,7 +88,7 @@ module _ (here inner : Scope) (n : ℕ) (ws mid : List Word) (l : here.levels �
   array_reads xs behind rest p a c e =
       enclosed_reads {s = an_expression} {v = some_expressions} (primary here) (λ h. members h [])
       (λ xs. give (expr.Array xs)) is_open_bracket is_close_bracket here inner n ws mid
-      (chosen_at here ws 93 _ (sign_is 93 ws p) refl refl ∙ ap (λ m. deepen m (array_from here)) l) p d i xs behind
+      (chosen_at here ws 93 _ (terminal_is 93 ws p) refl refl ∙ ap (λ m. deepen m (array_from here)) l) p d i xs behind
       rest rest (Ok (expr.Array xs)) a c e (g_give {s = an_expression} (expr.Array xs) rest)
 
   -- A fault in a list.
@@ -96,7 +97,7 @@ module _ (here inner : Scope) (n : ℕ) (ws mid : List Word) (l : here.levels �
   array_breaks e rest p a =
       enclosed_breaks {s = an_expression} {v = some_expressions} (primary here) (λ h. members h [])
       (λ xs. give (expr.Array xs)) is_open_bracket is_close_bracket here inner n ws mid
-      (chosen_at here ws 93 _ (sign_is 93 ws p) refl refl ∙ ap (λ m. deepen m (array_from here)) l) p d i e rest a
+      (chosen_at here ws 93 _ (terminal_is 93 ws p) refl refl ∙ ap (λ m. deepen m (array_from here)) l) p d i e rest a
 
   -- The `]` of a list lacks.
   pub array_lacks_close : (xs : List Expr) (behind : List Word) → next_is is_open_bracket (head ws) ≡ true →
@@ -105,7 +106,8 @@ module _ (here inner : Scope) (n : ℕ) (ws mid : List Word) (l : here.levels �
   array_lacks_close xs behind p a c =
       enclosed_lacks_close {s = an_expression} {v = some_expressions} (primary here) (λ h. members h [])
       (λ xs. give (expr.Array xs)) is_open_bracket is_close_bracket here inner n ws mid
-      (chosen_at here ws 93 _ (sign_is 93 ws p) refl refl ∙ ap (λ m. deepen m (array_from here)) l) p d i xs behind a c
+      (chosen_at here ws 93 _ (terminal_is 93 ws p) refl refl ∙ ap (λ m. deepen m (array_from here)) l) p d i xs
+          behind a c
 
   -- ---- `{..}`
   -- Pairs in braces.
@@ -116,7 +118,7 @@ module _ (here inner : Scope) (n : ℕ) (ws mid : List Word) (l : here.levels �
   hash_reads ps behind rest p a c e =
       enclosed_reads {s = an_expression} {v = some_pairs} (primary here) (λ h. pairs h [])
       (λ ps. give (expr.Hash ps)) is_open_brace is_close_brace here inner n ws mid
-      (chosen_at here ws 95 _ (sign_is 95 ws p) refl refl ∙ ap (λ m. deepen m (hash_from here)) l) p d i ps behind
+      (chosen_at here ws 95 _ (terminal_is 95 ws p) refl refl ∙ ap (λ m. deepen m (hash_from here)) l) p d i ps behind
       rest rest (Ok (expr.Hash ps)) a c e (g_give {s = an_expression} (expr.Hash ps) rest)
 
   -- A fault in pairs.
@@ -125,7 +127,7 @@ module _ (here inner : Scope) (n : ℕ) (ws mid : List Word) (l : here.levels �
   hash_breaks e rest p a =
       enclosed_breaks {s = an_expression} {v = some_pairs} (primary here) (λ h. pairs h [])
       (λ ps. give (expr.Hash ps)) is_open_brace is_close_brace here inner n ws mid
-      (chosen_at here ws 95 _ (sign_is 95 ws p) refl refl ∙ ap (λ m. deepen m (hash_from here)) l) p d i e rest a
+      (chosen_at here ws 95 _ (terminal_is 95 ws p) refl refl ∙ ap (λ m. deepen m (hash_from here)) l) p d i e rest a
 
   -- The `}` of pairs lacks.
   pub hash_lacks_close : (ps : List (Expr × Expr)) (behind : List Word) → next_is is_open_brace (head ws) ≡ true →
@@ -134,7 +136,8 @@ module _ (here inner : Scope) (n : ℕ) (ws mid : List Word) (l : here.levels �
   hash_lacks_close ps behind p a c =
       enclosed_lacks_close {s = an_expression} {v = some_pairs} (primary here) (λ h. pairs h [])
       (λ ps. give (expr.Hash ps)) is_open_brace is_close_brace here inner n ws mid
-      (chosen_at here ws 95 _ (sign_is 95 ws p) refl refl ∙ ap (λ m. deepen m (hash_from here)) l) p d i ps behind a c
+      (chosen_at here ws 95 _ (terminal_is 95 ws p) refl refl ∙ ap (λ m. deepen m (hash_from here)) l) p d i ps
+          behind a c
 
   -- ---- `(..)`
   -- An expression in parentheses.
@@ -195,7 +198,7 @@ abbrev constant_at : ℕ → Choice ruby a_constant
 constant_at n = cond (n == 86) (take (token is_path λ _. constant_from true None))
     (cond (n == 51) (take (constant_from false None)) nothing)
 
-moves_plain : (w : Word) (ws : List Word) → sign w ≡ 51 →
+moves_plain : (w : Word) (ws : List Word) → terminal w ≡ 51 →
     Moves ruby_grammar ruby_choices {s = a_constant} (only (constant None)) (w ∷ ws)
 moves_plain w ws s =
     moves_call ruby_grammar ruby_choices {s = a_constant} {v = a_constant} (constant None) (λ x. give x)
@@ -203,7 +206,7 @@ moves_plain w ws s =
     (moves_token ruby_grammar ruby_choices {s = a_constant} is_const _ w ws
     (subst (λ m. (m == 51) ≡ true) (sym s) refl))
 
-moves_top : (w : Word) (ws : List Word) → sign w ≡ 86 →
+moves_top : (w : Word) (ws : List Word) → terminal w ≡ 86 →
     Moves ruby_grammar ruby_choices {s = a_constant} (only (constant None)) (w ∷ ws)
 moves_top w ws s =
     moves_call ruby_grammar ruby_choices {s = a_constant} {v = a_constant} (constant None) (λ x. give x)

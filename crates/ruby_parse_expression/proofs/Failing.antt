@@ -3,7 +3,7 @@ use Rattle.std.proofs.Common.{◌≡◌, true, List, [], ◌∷◌, Option, Some
 use Rattle.ruby_types.specs.declared.tree.Expr.{Expr}
 use Rattle.descent.specs.Reading.{head}
 use Rattle.ruby_grammar.specs.Words.{Word}
-use Rattle.ruby_grammar.specs.Signs.{is_tight_paren}
+use Rattle.ruby_grammar.specs.Terminals.{is_tight_paren}
 use Rattle.ruby_grammar.specs.Rules.{Sort, Val, Rule, Scope, perhaps_arguments}
 use Rattle.ruby_grammar.specs.Choices.{next_is, starts_pair}
 use Rattle.ruby_parse_cursor.specs.Views.{head_terminal}

@@ -3,7 +3,7 @@ use Rattle.std.proofs.Common.{◌≡◌, true, false, List, [], ◌∷◌, ◌++
 use Rattle.descent.specs.Reading.{head}
 use Rattle.ruby_types.specs.declared.tree.Expr.{Expr}
 use Rattle.ruby_grammar.specs.Words.{Word}
-use Rattle.ruby_grammar.specs.Signs.{is_comma}
+use Rattle.ruby_grammar.specs.Terminals.{is_comma}
 use Rattle.ruby_grammar.specs.Rules.{Scope, expression, members, more_members, pairs, more_pairs, pair}
 use Rattle.ruby_grammar.specs.Choices.{next_is, starts_pair}
 use Rattle.ruby_parse_cursor.specs.Views.{head_terminal, expression_terminal}

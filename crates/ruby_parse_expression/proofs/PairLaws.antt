@@ -6,7 +6,7 @@ use Rattle.descent.specs.Reading.{take, head, choose}
 use Rattle.ruby_types.specs.declared.tree.Expr.{Expr}
 use Rattle.ruby_types.specs.declared.tree.Expr.TheVariants as expr
 use Rattle.ruby_grammar.specs.Words.{Word}
-use Rattle.ruby_grammar.specs.Signs.{is_comma, is_label, is_arrow}
+use Rattle.ruby_grammar.specs.Terminals.{is_comma, is_label, is_arrow}
 use Rattle.ruby_grammar.specs.Rules.{Scope, some_pairs, a_pair, expression, pairs, more_pairs, pair}
 use Rattle.ruby_grammar.specs.Values.{before_colon}
 use Rattle.ruby_grammar.specs.Expressions.{pair_then, label_pair, arrow_pair}

@@ -4,7 +4,7 @@ use Rattle.descent.specs.Grammar.{token, give}
 use Rattle.descent.specs.Reading.{take}
 use Rattle.ruby_types.specs.declared.tree.Expr.{Expr}
 use Rattle.ruby_grammar.specs.Words.{Word}
-use Rattle.ruby_grammar.specs.Signs.{is}
+use Rattle.ruby_grammar.specs.Terminals.{is}
 use Rattle.ruby_grammar.specs.Rules.{Scope, primary}
 use Rattle.ruby_parse_cursor.specs.declared.fault.Fault.{Fault}
 use Rattle.ruby_parse_cursor.specs.Views.{head_terminal, code_view}

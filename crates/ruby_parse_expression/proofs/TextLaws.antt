@@ -8,7 +8,7 @@ use Rattle.ruby_types.specs.declared.tree.Expr.TheVariants as expr
 use Rattle.ruby_types.specs.declared.tree.Part.{Part}
 use Rattle.ruby_types.specs.declared.tree.Part.TheVariants as part
 use Rattle.ruby_grammar.specs.Words.{Word}
-use Rattle.ruby_grammar.specs.Signs.{is_text_open, is_text_piece, is_text_close, is_inside_open, is_inside_close}
+use Rattle.ruby_grammar.specs.Terminals.{is_text_open, is_text_piece, is_text_close, is_inside_open, is_inside_close}
 use Rattle.ruby_grammar.specs.Rules.{Scope, an_expression, some_parts, expression, primary, text_parts}
 use Rattle.ruby_grammar.specs.Values.{text_bytes, is_double_quote, begins_with}
 use Rattle.ruby_grammar.specs.Expressions.{at_levels, text_from, inside_from, piece_from}

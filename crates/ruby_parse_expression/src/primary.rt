@@ -3,7 +3,7 @@
 ghost use Rattle.std.specs.Prelude.{◌≡◌, ◌≢◌, ◌≤◌, ◌<◌, [], drop, length, true, false, None, Ok, OnOk, IfOk, IfSome};
 ghost use Rattle.descent.specs.Reading.{head};
 ghost use Rattle.ruby_grammar.specs.Choices.{next_is};
-ghost use Rattle.ruby_grammar.specs.Signs.{is_dot, is_tight_bracket, is_tight_paren};
+ghost use Rattle.ruby_grammar.specs.Terminals.{is_dot, is_tight_bracket, is_tight_paren};
 ghost use Rattle.ruby_grammar.specs.Rules as rules;
 ghost use Rattle.ruby_parse_cursor.specs.Views.{head_terminal};
 ghost use Rattle.ruby_parse_steps.specs.Gives.{GivesRule};

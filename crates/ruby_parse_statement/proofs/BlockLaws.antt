@@ -9,7 +9,7 @@ use Rattle.ruby_types.specs.declared.tree.Expr.{Expr}
 use Rattle.ruby_types.specs.declared.tree.Stmt.{Stmt}
 use Rattle.ruby_types.specs.declared.tree.Stmt.TheVariants as stmt
 use Rattle.ruby_grammar.specs.Words.{Word}
-use Rattle.ruby_grammar.specs.Signs.{is_end, is_else, is_elsif, is_then, is_line}
+use Rattle.ruby_grammar.specs.Terminals.{is_end, is_else, is_elsif, is_then, is_line}
 use Rattle.ruby_grammar.specs.Rules.{ruby, Name, Known, Block, Around, Scope, a_statement, a_block, no_value, arms_rest}
 use Rattle.ruby_grammar.specs.Rules.{statements, expression, then_or_line, perhaps_line}
 use Rattle.ruby_grammar.specs.Statements.{known, block, scope, behind, arm_from, arms_end, else_more, elsif_more}

@@ -7,7 +7,7 @@ use Rattle.ruby_types.specs.declared.tree.Expr.{Expr}
 use Rattle.ruby_types.specs.declared.tree.Expr.TheVariants as expr
 use Rattle.ruby_types.specs.declared.tree.Stmt.{Stmt}
 use Rattle.ruby_grammar.specs.Words.{Word}
-use Rattle.ruby_grammar.specs.Signs.{is_if, is_unless}
+use Rattle.ruby_grammar.specs.Terminals.{is_if, is_unless}
 use Rattle.ruby_grammar.specs.Rules.{Name, Known, a_statement, condition_behind, expression}
 use Rattle.ruby_grammar.specs.Statements.{known, scope, if_behind, unless_behind}
 use Rattle.ruby_grammar.specs.Choices.{next_is}

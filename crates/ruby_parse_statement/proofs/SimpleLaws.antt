@@ -7,7 +7,7 @@ use Rattle.descent.specs.Reading.{take, barred, head, second, choose, by_bar}
 use Rattle.ruby_types.specs.declared.tree.Expr.{Expr}
 use Rattle.ruby_types.specs.declared.tree.Stmt.TheVariants as stmt
 use Rattle.ruby_grammar.specs.Words.{Word}
-use Rattle.ruby_grammar.specs.Signs.{is_variable, is_ivar, is_assign, is_return, is_raise}
+use Rattle.ruby_grammar.specs.Terminals.{is_variable, is_ivar, is_assign, is_return, is_raise}
 use Rattle.ruby_grammar.specs.Rules.{ruby, Name, Known, Around, Scope, a_statement, perhaps_an_expression}
 use Rattle.ruby_grammar.specs.Rules.{simple_statement, perhaps_expression, expression}
 use Rattle.ruby_grammar.specs.Values.{behind_sign}

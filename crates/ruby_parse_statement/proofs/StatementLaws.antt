@@ -6,7 +6,7 @@ use Rattle.descent.specs.Grammar.{give, token, call, only}
 use Rattle.descent.specs.Reading.{take, head, choose}
 use Rattle.ruby_types.specs.declared.tree.Stmt.{Stmt}
 use Rattle.ruby_grammar.specs.Words.{Word}
-use Rattle.ruby_grammar.specs.Signs.{is_if, is_unless, is_line}
+use Rattle.ruby_grammar.specs.Terminals.{is_if, is_unless, is_line}
 use Rattle.ruby_grammar.specs.Rules.{Name, Known, Block, Around, a_statement, a_block, statements, more_statements}
 use Rattle.ruby_grammar.specs.Rules.{statement, simple_statement, condition_behind}
 use Rattle.ruby_grammar.specs.Statements.{known, block, behind, statement_then, arm_from, if_from, unless_from}

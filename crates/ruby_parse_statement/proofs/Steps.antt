@@ -7,7 +7,7 @@ use Rattle.ruby_types.specs.declared.tree.Expr.{Expr}
 use Rattle.descent.specs.Grammar.{Prod, give, token, call}
 use Rattle.descent.specs.Reading.{take, head, choose}
 use Rattle.ruby_grammar.specs.Words.{Word}
-use Rattle.ruby_grammar.specs.Signs.{is, sign}
+use Rattle.ruby_grammar.specs.Terminals.{is, terminal}
 use Rattle.ruby_grammar.specs.Rules.{ruby, Sort, Val, Rule, Known, Scope, a_statement, expression}
 use Rattle.ruby_grammar.specs.Choices.{ruby_choices, next_is}
 use Rattle.ruby_parse_cursor.specs.declared.fault.Fault.{Fault}
@@ -87,7 +87,7 @@ is_same m n h = grind (arith, nat_tests)
 pub apart : (m n : ℕ) (ws : List Word) → (m == n) ≡ false → next_is (is m) (head ws) ≡ true →
     next_is (is n) (head ws) ≡ false
 apart m n [] d p = refl
-apart m n (w ∷ ws) d p = subst (λ k. (k == n) ≡ false) (sym (is_same (sign w) m p)) d
+apart m n (w ∷ ws) d p = subst (λ k. (k == n) ≡ false) (sym (is_same (terminal w) m p)) d
 
 -- ---- lengths
 -- Behind a word that was skipped fewer words are left.

@@ -2,7 +2,7 @@
 
 ghost use Rattle.std.specs.Prelude.{◌≡◌, ◌≤◌, ◌&&◌, ◌||◌, ◌∷◌, ◌++◌, [], not, length, Ok, IfOk, OnOk};
 ghost use Rattle.descent.specs.Reading.{head};
-ghost use Rattle.ruby_grammar.specs.Signs.{is_if, is_unless, is_else, is_elsif};
+ghost use Rattle.ruby_grammar.specs.Terminals.{is_if, is_unless, is_else, is_elsif};
 ghost use Rattle.ruby_grammar.specs.Choices.{next_is};
 ghost use Rattle.ruby_grammar.specs.Statements.{scope};
 ghost use Rattle.ruby_grammar.specs.Rules as rules;

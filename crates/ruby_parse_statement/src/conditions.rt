@@ -2,7 +2,7 @@
 
 ghost use Rattle.std.specs.Prelude.{◌≡◌, ◌≤◌, ◌||◌, ◌∷◌, [], true, false, length, IfOk, IfErr};
 ghost use Rattle.descent.specs.Reading.{head};
-ghost use Rattle.ruby_grammar.specs.Signs.{is_if, is_unless};
+ghost use Rattle.ruby_grammar.specs.Terminals.{is_if, is_unless};
 ghost use Rattle.ruby_grammar.specs.Choices.{next_is};
 ghost use Rattle.ruby_grammar.specs.Rules as rules;
 ghost use Rattle.ruby_parse_steps.specs.Gives.{GivesRule};

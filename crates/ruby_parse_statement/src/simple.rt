@@ -2,7 +2,7 @@
 
 ghost use Rattle.std.specs.Prelude.{◌≡◌, ◌≤◌, ◌&&◌, ◌∷◌, true, false, length, IfOk, IfErr, OnErr};
 ghost use Rattle.descent.specs.Reading.{head, second};
-ghost use Rattle.ruby_grammar.specs.Signs.{is_variable, is_ivar, is_assign, is_return, is_raise};
+ghost use Rattle.ruby_grammar.specs.Terminals.{is_variable, is_ivar, is_assign, is_return, is_raise};
 ghost use Rattle.ruby_grammar.specs.Choices.{next_is};
 ghost use Rattle.ruby_grammar.specs.Rules as rules;
 ghost use Rattle.ruby_grammar.specs.Statements.{returning, raising, setting, setting_ivar, evaluating};

@@ -2,7 +2,7 @@
 
 ghost use Rattle.std.specs.Prelude.{◌≡◌, ◌≤◌, ◌&&◌, [], false, not, length, IfOk};
 ghost use Rattle.descent.specs.Reading.{head};
-ghost use Rattle.ruby_grammar.specs.Signs.{is_elsif};
+ghost use Rattle.ruby_grammar.specs.Terminals.{is_elsif};
 ghost use Rattle.ruby_grammar.specs.Choices.{next_is};
 ghost use Rattle.ruby_grammar.specs.Rules as rules;
 ghost use Rattle.ruby_parse_steps.specs.Gives.{Gives, GivesRule};

@@ -4,7 +4,7 @@ use Rattle.descent.specs.Grammar.{give, token, only}
 use Rattle.descent.specs.Reading.{take, head, choose}
 use Rattle.ruby_types.specs.declared.tree.Expr.{Expr}
 use Rattle.ruby_grammar.specs.Words.{Word}
-use Rattle.ruby_grammar.specs.Signs.{is_comma}
+use Rattle.ruby_grammar.specs.Terminals.{is_comma}
 use Rattle.ruby_grammar.specs.Rules.{Scope, some_expressions, expression, members, more_members}
 use Rattle.ruby_grammar.specs.Expressions.{member_then}
 use Rattle.ruby_grammar.specs.Choices.{ruby_choices, next_is, starts_expression}

@@ -9,7 +9,7 @@ use Rattle.descent.specs.Reading.{take, head, choose}
 use Rattle.ruby_types.specs.declared.tree.Expr.{Expr}
 use Rattle.ruby_types.specs.declared.tree.Expr.TheVariants as expr
 use Rattle.ruby_grammar.specs.Words.{Word}
-use Rattle.ruby_grammar.specs.Signs.{disjunctions, is_ask, is_colon}
+use Rattle.ruby_grammar.specs.Terminals.{disjunctions, is_ask, is_colon}
 use Rattle.ruby_grammar.specs.Rules.{Scope, an_expression, expression, choice_rest, operators}
 use Rattle.ruby_grammar.specs.Expressions.{expression_from, choice_more}
 use Rattle.ruby_grammar.specs.Choices.{ruby_choices, next_is}

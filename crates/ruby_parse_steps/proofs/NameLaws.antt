@@ -6,7 +6,7 @@ use Rattle.descent.specs.Reading.{take, head, choose}
 use Rattle.ruby_types.specs.declared.tree.Expr.{Expr}
 use Rattle.ruby_types.specs.declared.tree.Expr.TheVariants as expr
 use Rattle.ruby_grammar.specs.Words.{Word}
-use Rattle.ruby_grammar.specs.Signs.{is_name, has, is_tight_paren, is_close_paren}
+use Rattle.ruby_grammar.specs.Terminals.{is_name, has, is_tight_paren, is_close_paren}
 use Rattle.ruby_grammar.specs.Rules.{Scope, an_expression, some_expressions, primary, name_rest, perhaps_arguments}
 use Rattle.ruby_grammar.specs.Rules.{members}
 use Rattle.ruby_grammar.specs.Values.{name_alone}

@@ -6,7 +6,7 @@ use Rattle.descent.specs.Reading.{take, head, choose}
 use Rattle.ruby_types.specs.declared.tree.Expr.{Expr}
 use Rattle.ruby_types.specs.declared.tree.Expr.TheVariants as expr
 use Rattle.ruby_grammar.specs.Words.{Word}
-use Rattle.ruby_grammar.specs.Signs.{Level, units, tighter, is_operator, repeats, is_not, is_minus}
+use Rattle.ruby_grammar.specs.Terminals.{Level, units, tighter, is_operator, repeats, is_not, is_minus}
 use Rattle.ruby_grammar.specs.Rules.{Scope, an_expression, unary, postfix, operators, more_operators}
 use Rattle.ruby_grammar.specs.Values.{operation}
 use Rattle.ruby_grammar.specs.Expressions.{at_levels, not_from, minus_from, operators_from, operator_more}

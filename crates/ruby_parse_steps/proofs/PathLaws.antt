@@ -7,7 +7,7 @@ use Rattle.descent.specs.Reading.{take, nothing, head, choose, Outcome, done, fa
 use Rattle.descent.specs.Reading.{by_mark, by_clash, by_give, by_nothing}
 use Rattle.ruby_grammar.specs.Words.{Word}
 use Rattle.ruby_grammar.specs.Marks.{Mark}
-use Rattle.ruby_grammar.specs.Signs.{is_path, is_const}
+use Rattle.ruby_grammar.specs.Terminals.{is_path, is_const}
 use Rattle.ruby_grammar.specs.Rules.{ruby, some_names, a_constant, path_rest, constant}
 use Rattle.ruby_grammar.specs.Expressions.{path_end, path_more, constant_from}
 use Rattle.ruby_grammar.specs.Choices.{ruby_choices, next_is}

@@ -9,7 +9,7 @@ use Rattle.descent.specs.Reading.{take, head, choose}
 use Rattle.ruby_types.specs.declared.tree.Expr.{Expr}
 use Rattle.ruby_types.specs.declared.tree.Expr.TheVariants as expr
 use Rattle.ruby_grammar.specs.Words.{Word}
-use Rattle.ruby_grammar.specs.Signs.{is_dot, is_name, is_tight_bracket, is_close_bracket}
+use Rattle.ruby_grammar.specs.Terminals.{is_dot, is_name, is_tight_bracket, is_close_bracket}
 use Rattle.ruby_grammar.specs.Rules.{Scope, an_expression, postfix, more_postfix, primary, perhaps_arguments}
 use Rattle.ruby_grammar.specs.Rules.{expression}
 use Rattle.ruby_grammar.specs.Expressions.{at_levels, postfix_from, method_call, index_from}

@@ -8,7 +8,7 @@ use Rattle.descent.specs.Reading.{Choice, take, nothing, head, choose}
 use Rattle.ruby_types.specs.declared.tree.Expr.{Expr}
 use Rattle.ruby_types.specs.declared.tree.Expr.TheVariants as expr
 use Rattle.ruby_grammar.specs.Words.{Word}
-use Rattle.ruby_grammar.specs.Signs.{is, is_int, is_sym, is_ivar, is_nil, is_true, is_false, is_self, is_name}
+use Rattle.ruby_grammar.specs.Terminals.{is, is_int, is_sym, is_ivar, is_nil, is_true, is_false, is_self, is_name}
 use Rattle.ruby_grammar.specs.Rules.{ruby, Scope, an_expression, primary, name_rest}
 use Rattle.ruby_grammar.specs.Values.{number_of, behind_sign}
 use Rattle.ruby_grammar.specs.Expressions.{text_from, constant_alone, array_from, hash_from, group_from}

@@ -2,7 +2,8 @@
 use Rattle.std.specs.Prelude.{ℕ, Bool, false, ◌==◌, ◌||◌, ◌&&◌, nat_le}
 use Rattle.ruby_parse_steps.specs.declared.operators.Level.{Level as Held}
 use Rattle.ruby_parse_steps.specs.declared.operators.Level.TheVariants as held
-use Rattle.ruby_grammar.specs.Signs.{Level, units, products, sums, comparisons, equalities, conjunctions, disjunctions}
+use Rattle.ruby_grammar.specs.Terminals.{Level, units, products, sums, comparisons, equalities, conjunctions}
+use Rattle.ruby_grammar.specs.Terminals.{disjunctions}
 
 abbrev pub level_view : Held → Level
 level_view held.Units = units

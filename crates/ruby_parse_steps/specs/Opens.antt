@@ -4,7 +4,7 @@ use Rattle.descent.specs.Grammar.{Prod, give, token, call}
 use Rattle.ruby_types.specs.declared.tree.Expr.{Expr}
 use Rattle.ruby_types.specs.declared.tree.Expr.TheVariants as expr
 use Rattle.ruby_grammar.specs.Words.{Word}
-use Rattle.ruby_grammar.specs.Signs.{is_colon}
+use Rattle.ruby_grammar.specs.Terminals.{is_colon}
 use Rattle.ruby_grammar.specs.Rules.{ruby, Scope, an_expression, expression}
 use Rattle.ruby_parse_cursor.specs.declared.fault.Fault.{Fault}
 use Rattle.ruby_parse_steps.specs.declared.choices.Open.{Open}

@@ -4,7 +4,7 @@ use Rattle.descent.specs.Grammar.{Prod, token, call}
 use Rattle.descent.specs.Reading.{choose}
 use Rattle.ruby_types.specs.declared.tree.Expr.{Expr}
 use Rattle.ruby_grammar.specs.Words.{Word}
-use Rattle.ruby_grammar.specs.Signs.{is_tight_paren, is_close_paren}
+use Rattle.ruby_grammar.specs.Terminals.{is_tight_paren, is_close_paren}
 use Rattle.ruby_grammar.specs.Rules.{ruby, Sort, Val, Rule, Scope, members}
 use Rattle.ruby_grammar.specs.Expressions.{at_levels}
 use Rattle.ruby_grammar.specs.Choices.{ruby_choices, deepen}

@@ -1,7 +1,7 @@
 //! Operators with two operands, and the trees that they make.
 
 ghost use Rattle.std.specs.Prelude.{◌≡◌, ◌∷◌, [], IfOk, codes, nat_lt};
-ghost use Rattle.ruby_grammar.specs.Signs as terminals;
+ghost use Rattle.ruby_grammar.specs.Terminals as terminals;
 ghost use Rattle.ruby_grammar.specs.Values.{operation};
 ghost use Rattle.ruby_parse_cursor.specs.Views.{word_view};
 ghost use Rattle.ruby_parse_steps.specs.Levels.{level_view, rank, looser, is_operator_terminal, is_any_operator};
@@ -156,7 +156,7 @@ pub fn operation(
     a: Expr,
     b: Expr,
 ) -> Result<Expr, AllocError>
-    requires { terminal ≡ terminals.sign (word_view operator) }
+    requires { terminal ≡ terminals.terminal (word_view operator) }
     ensures { IfOk result (λ x. x ≡ operation (word_view operator.entry) a b) }
 {
     if terminal == OR_ELSE {

@@ -6,7 +6,7 @@ use Rattle.ruby_types.specs.declared.tree.Expr.{Expr}
 use Rattle.ruby_types.specs.declared.tree.Expr.TheVariants as expr
 use Rattle.ruby_types.specs.declared.tree.Part.{Part}
 use Rattle.ruby_types.specs.declared.tree.Part.TheVariants as part
-use Rattle.ruby_grammar.specs.Signs.{has}
+use Rattle.ruby_grammar.specs.Terminals.{has}
 use Rattle.ruby_grammar.specs.Rules.{Name}
 use Rattle.ruby_print_pieces.specs.Names.{IsPlainName, IsSymbolName, IsMethodName, IsPath, IsInRange, is_operation}
 

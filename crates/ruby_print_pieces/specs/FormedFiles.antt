@@ -6,7 +6,7 @@ use Rattle.ruby_types.specs.declared.tree.Stmt.{Stmt}
 use Rattle.ruby_types.specs.declared.tree.Def.{Def}
 use Rattle.ruby_types.specs.declared.tree.Def.TheVariants as def
 use Rattle.ruby_types.specs.declared.tree.FileTree.{FileTree}
-use Rattle.ruby_grammar.specs.Signs.{has}
+use Rattle.ruby_grammar.specs.Terminals.{has}
 use Rattle.ruby_grammar.specs.Marks.{Act, assigns, opens_module, opens_class, gives_parent, defines, Mark, clashes_any}
 use Rattle.ruby_grammar.specs.Rules.{Name, Path}
 use Rattle.ruby_grammar.specs.Definitions.{at_top, counts}

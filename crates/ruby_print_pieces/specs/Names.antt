@@ -2,7 +2,7 @@
 use Rattle.std.specs.Prelude.{◌≡◌, ℕ, Bool, true, List, [], ◌∷◌, ◌++◌, ◌||◌, codes, bytes_eq, ℤ, pos, negsuc, ◌<◌, ◌^◌}
 use Rattle.std.specs.Char.{is_ascii_uppercase}
 use Rattle.ruby_token.specs.Bytes.{Every, is_word, is_lower, is_suffix}
-use Rattle.ruby_grammar.specs.Signs.{name_sign}
+use Rattle.ruby_grammar.specs.Terminals.{name_terminal}
 
 -- a small letter or `_`, then letters, digits and `_`
 pub data IsPlainName : List ℕ → Type 0 where
@@ -24,12 +24,12 @@ pub data IsSymbolName : List ℕ → Type 0 where
 -- a name that is no word of Ruby's own
 pub record IsMethodName (n : List ℕ) : Type 0 where
   pub spelled : IsName n
-  pub free : name_sign n ≡ 0
+  pub free : name_terminal n ≡ 0
 
 -- one that can be a variable
 pub record IsVariableName (n : List ℕ) : Type 0 where
   pub spelled : IsPlainName n
-  pub free : name_sign n ≡ 0
+  pub free : name_terminal n ≡ 0
 
 -- all of these are constant names, and there is one
 abbrev pub EachConst : List (List ℕ) → Type 0

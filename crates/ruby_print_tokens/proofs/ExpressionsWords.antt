@@ -14,7 +14,7 @@ use Rattle.ruby_token.specs.Opens.{text_at}
 use Rattle.ruby_token.specs.State.{after_token, is_valueless}
 use Rattle.ruby_token.specs.Cut.{is_big}
 use Rattle.ruby_token.specs.Number.{is_in_range}
-use Rattle.ruby_grammar.specs.Signs.{name_sign}
+use Rattle.ruby_grammar.specs.Terminals.{name_terminal}
 use Rattle.ruby_print.specs.Expressions.{is_operator}
 use Rattle.ruby_print_pieces.specs.Pieces.{Piece, bytes_of, behind_piece, op_of, piece, mark, name, const, colons, dot}
 use Rattle.ruby_print_pieces.specs.Pieces.{open_paren, close_paren, open_bracket, close_bracket, path, path_more, space}
@@ -65,7 +65,7 @@ local_body n i =
     let f = name_of i.spelled in
     subst (λ m. Body (λ gap. name gap m ∷ [])) (sym f.whole)
     (local_of f.first f.tail f.lower f.shape
-    (no_valueless (f.first ∷ f.tail) (ap name_sign (sym f.whole) ∙ i.free)))
+    (no_valueless (f.first ∷ f.tail) (ap name_terminal (sym f.whole) ∙ i.free)))
 
 -- An instance variable, given the white before it, is found.
 pub ivar_body : (n : List ℕ) → IsPlainName n → Body (λ gap. piece gap k.Ivar (64 ∷ n) ∷ [])
@@ -259,7 +259,7 @@ word_call_body x f n xs i w hx h inside gap s m rest b g =
     subst (λ ps. Flown rest s m ps (Ends s)) (sym (word_call x n (map f xs) gap inside w))
     (subst (λ y. Flown rest s m (x gap true ++ (dot ∷ name [] y ∷ arguments (map f xs))) (Ends s)) (sym d.whole)
     (word_of x f xs hx h d.first d.tail d.lower d.shape
-    (no_valueless (d.first ∷ d.tail) (ap name_sign (sym d.whole) ∙ i.free)) gap s m rest b g))
+    (no_valueless (d.first ∷ d.tail) (ap name_terminal (sym d.whole) ∙ i.free)) gap s m rest b g))
 
 operator_call : (x y : Laid) (n : List ℕ) (gap : List ℕ) (inside : Bool) → IsOperatorCall n →
     call_on x n (y ∷ []) gap inside ≡ enclosed (infix_body x (op_of n) n y) gap inside

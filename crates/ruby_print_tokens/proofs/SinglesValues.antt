@@ -5,10 +5,10 @@ use Rattle.std.specs.List.{starts_with, AllByRecursion}
 use Rattle.std.proofs.lemmas.Slice.Eq.{bytes_eq-Decides}
 use Rattle.ruby_token.specs.State.{valueless_words, is_one_of, is_valueless}
 use Rattle.ruby_token.proofs.Longest.{and_left, and_right}
-use Rattle.ruby_grammar.specs.Signs.{name_sign}
+use Rattle.ruby_grammar.specs.Terminals.{name_terminal}
 
 abbrev HasSign : List ℕ → Type 0
-HasSign w = (name_sign w == 0) ≡ false
+HasSign w = (name_terminal w == 0) ≡ false
 
 same_text : (n w : List ℕ) → ((length n == length w) && starts_with nat_eq n w) ≡ true → w ≡ n
 same_text n w h =
@@ -26,13 +26,13 @@ one_of_them (w ∷ ws) n h e = cases ((length n == length w) && starts_with nat_
     (λ t. subst HasSign (same_text n w t) h.0)
     (λ f. one_of_them ws n h.1 (rw f at e))
 
-signs : AllByRecursion HasSign valueless_words
-signs = (refl, (refl, (refl, (refl, (refl, (refl, (refl, (refl, (refl, (refl, (refl, (refl, (refl, tt)))))))))))))
+terminals : AllByRecursion HasSign valueless_words
+terminals = (refl, (refl, (refl, (refl, (refl, (refl, (refl, (refl, (refl, (refl, (refl, (refl, (refl, tt)))))))))))))
 
 -- A name that is no word of Ruby's own ends a value.
-pub no_valueless : (n : List ℕ) → name_sign n ≡ 0 → is_valueless n ≡ false
+pub no_valueless : (n : List ℕ) → name_terminal n ≡ 0 → is_valueless n ≡ false
 unfolding is_valueless
 no_valueless n h = cases (is_one_of valueless_words n)
-    (λ t. let g : HasSign n = one_of_them valueless_words n signs t in let i : (name_sign n == 0) ≡ true =
+    (λ t. let g : HasSign n = one_of_them valueless_words n terminals t in let i : (name_terminal n == 0) ≡ true =
     rw h refl in cc)
     (λ f. f)

@@ -4,7 +4,7 @@ use Rattle.std.proofs.Common.{subst, append_assoc, append-nil}
 use Rattle.ruby_types.specs.declared.tree.ConstRef.{ConstRef}
 use Rattle.ruby_types.specs.declared.tree.Def.{Def}
 use Rattle.ruby_types.specs.declared.tree.Def.TheVariants as def
-use Rattle.ruby_grammar.specs.Signs.{has, is_variable}
+use Rattle.ruby_grammar.specs.Terminals.{has, is_variable}
 use Rattle.ruby_grammar.specs.Marks.{opens_class, defines, opens_module}
 use Rattle.ruby_grammar.specs.Rules.{Name, Path, Body, Heading, Block, file, definitions, more_definitions, definition}
 use Rattle.ruby_grammar.specs.Rules.{parent, heading, parameter_list, parameters, more_parameters, more_readers}

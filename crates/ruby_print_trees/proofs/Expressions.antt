@@ -3,8 +3,9 @@ use Rattle.std.proofs.Common.{Bool, true, false, List, Option, Some, None, refl,
 use Rattle.ruby_types.specs.declared.tree.Expr.{Expr}
 use Rattle.ruby_types.specs.declared.tree.Part.{Part}
 use Rattle.ruby_token.proofs.Words.{split_if}
-use Rattle.ruby_grammar.specs.Signs.{Level, units, products, sums, comparisons, equalities, conjunctions, disjunctions}
-use Rattle.ruby_grammar.specs.Signs.{has}
+use Rattle.ruby_grammar.specs.Terminals.{Level, units, products, sums, comparisons, equalities, conjunctions}
+use Rattle.ruby_grammar.specs.Terminals.{disjunctions}
+use Rattle.ruby_grammar.specs.Terminals.{has}
 use Rattle.ruby_grammar.specs.Marks.{Mark}
 use Rattle.ruby_grammar.specs.Rules.{PathOpening, opened_path}
 use Rattle.ruby_grammar.specs.Rules.{Name, Scope, path_rest, constant, expression, choice_rest, operators}

@@ -8,7 +8,7 @@ use Rattle.ruby_types.specs.declared.tree.Stmt.{Stmt}
 use Rattle.ruby_types.specs.declared.tree.Def.{Def}
 use Rattle.descent.specs.Grammar.{Prod}
 use Rattle.ruby_grammar.specs.Words.{Word}
-use Rattle.ruby_grammar.specs.Signs.{has, is_text_piece}
+use Rattle.ruby_grammar.specs.Terminals.{has, is_text_piece}
 use Rattle.ruby_grammar.specs.Marks.{defines}
 use Rattle.ruby_grammar.specs.Rules.{ruby, Name, Path, Sort, Rule}
 use Rattle.ruby_grammar.specs.Expressions.{opening}

@@ -12,7 +12,7 @@ use Rattle.ruby_token.specs.Lexemes as l
 use Rattle.ruby_token.specs.Cut.{is_big}
 use Rattle.descent.specs.Grammar.{Prod, give, token, call, mark, Item, word, marked}
 use Rattle.ruby_grammar.specs.Words.{Word}
-use Rattle.ruby_grammar.specs.Signs.{is_text_piece}
+use Rattle.ruby_grammar.specs.Terminals.{is_text_piece}
 use Rattle.ruby_grammar.specs.Marks.{Mark, gives_parent, defines}
 use Rattle.ruby_grammar.specs.Rules.{ruby, Val, Name, Path, Sort, Rule, file, definitions, more_definitions, definition}
 use Rattle.ruby_grammar.specs.Rules.{opened_path}

@@ -16,7 +16,7 @@ use Rattle.ruby_token.proofs.Cuts.{take_front}
 use Rattle.ruby_token.proofs.SpanLaws.{tokens_in}
 use Rattle.ruby_grammar.specs.Words.{Word, words_behind, words_of}
 use Rattle.ruby_token.specs.Spans.{text_of}
-use Rattle.ruby_grammar.specs.Signs.{is_text_piece}
+use Rattle.ruby_grammar.specs.Terminals.{is_text_piece}
 use Rattle.ruby_print_trees.proofs.Meaning.{Sound, Beside, SoundWords}
 use Rattle.ruby_print_trees.proofs.WordKinds.{kind_is}
 use Rattle.ruby_print_trees.proofs.Boundaries.{rest_utf8, piece_utf8, PieceEnds, piece_ends, no_gap, front_utf8}

@@ -15,7 +15,7 @@ use Rattle.ruby_token.specs.Lexemes.{What, gap, token, InCode, InDouble, piece, 
 use Rattle.ruby_token.specs.Lexemes.{piece_single, closing_single, IsIn}
 use Rattle.ruby_token.proofs.Words.{split_if}
 use Rattle.ruby_words.specs.Words.{word_rows}
-use Rattle.ruby_grammar.specs.Signs.{code_in, name_sign, op_sign, kind_sign}
+use Rattle.ruby_grammar.specs.Terminals.{code_in, name_terminal, op_terminal, kind_terminal}
 use Rattle.ruby_grammar.proofs.Tools.{and_true}
 
 abbrev low : List (List ℕ × ℕ) → Bool
@@ -31,10 +31,10 @@ code_low (row ∷ rows) name h =
     split_if (λ c. c ≤ 47) (bytes_eq row.0 name) row.1 (code_in rows name) (λ e. below row.1 47 (and_true _ _ h).0)
     (λ e. code_low rows name (and_true _ _ h).1)
 
-name_low : (text : List ℕ) → name_sign text ≤ 47
+name_low : (text : List ℕ) → name_terminal text ≤ 47
 name_low text = code_low word_rows text refl
 
-op_high : (o : Op) → 70 ≤ op_sign o
+op_high : (o : Op) → 70 ≤ op_terminal o
 op_high op.OrElse = omega arith
 op_high op.AndAlso = omega arith
 op_high op.Not = omega arith
@@ -65,7 +65,7 @@ op_high op.CloseBrace = omega arith
 op_high op.Bar = omega arith
 op_high _ = omega arith
 
--- the one kind that has this sign, where it is no name and no operator
+-- the one kind that has this terminal, where it is no name and no operator
 abbrev pub kind_of : ℕ → TokenKind
 kind_of n =
     if n == 50 then k.Line else
@@ -75,7 +75,7 @@ kind_of n =
     (if n == 57 then k.TextPiece else
     (if n == 58 then k.InsideOpen else (if n == 59 then k.InsideClose else k.TextClose)))))))))
 
-by_kind : (kind : TokenKind) (text : List ℕ) (n : ℕ) → kind_sign kind text ≡ n → 47 < n → n < 70 → kind ≡ kind_of n
+by_kind : (kind : TokenKind) (text : List ℕ) (n : ℕ) → kind_terminal kind text ≡ n → 47 < n → n < 70 → kind ≡ kind_of n
 by_kind k.Line text n e l h = rw (← e) refl
 by_kind k.Name text n e l h = absurd (omega (arith, name_low text, e, l))
 by_kind k.Const text n e l h = rw (← e) refl
@@ -91,14 +91,14 @@ by_kind k.TextClose text n e l h = rw (← e) refl
 by_kind (k.Op o) text n e l h = absurd (omega (arith, op_high o, e, h))
 
 -- A word with the number of a kind is of that kind.
-pub kind_is : (kind : TokenKind) (text : List ℕ) (n : ℕ) → (kind_sign kind text == n) ≡ true → 47 < n → n < 70 →
+pub kind_is : (kind : TokenKind) (text : List ℕ) (n : ℕ) → (kind_terminal kind text == n) ≡ true → 47 < n → n < 70 →
     kind ≡ kind_of n
-kind_is kind text n h = by_kind kind text n (eqb-true (kind_sign kind text) n h)
+kind_is kind text n h = by_kind kind text n (eqb-true (kind_terminal kind text) n h)
 
 abbrev IsNamed : TokenKind → List ℕ → Type 0
-IsNamed kind text = (kind ≡ k.Name) × (name_sign text ≡ 0)
+IsNamed kind text = (kind ≡ k.Name) × (name_terminal text ≡ 0)
 
-by_name : (kind : TokenKind) (text : List ℕ) → kind_sign kind text ≡ 0 → IsNamed kind text
+by_name : (kind : TokenKind) (text : List ℕ) → kind_terminal kind text ≡ 0 → IsNamed kind text
 by_name k.Name text e = (refl, e)
 by_name k.Line text e = absurd (omega arith)
 by_name k.Const text e = absurd (omega arith)
@@ -114,12 +114,12 @@ by_name k.TextClose text e = absurd (omega arith)
 by_name (k.Op o) text e = absurd (omega (arith, op_high o, e))
 
 -- A word with the number of names is a name and no word of Ruby.
-pub name_is : (kind : TokenKind) (text : List ℕ) → (kind_sign kind text == 0) ≡ true → (kind ≡ k.Name)
-    × (name_sign text ≡ 0)
-name_is kind text h = by_name kind text (eqb-true (kind_sign kind text) 0 h)
+pub name_is : (kind : TokenKind) (text : List ℕ) → (kind_terminal kind text == 0) ≡ true → (kind ≡ k.Name)
+    × (name_terminal text ≡ 0)
+name_is kind text h = by_name kind text (eqb-true (kind_terminal kind text) 0 h)
 
 -- A word with the number of an operator is an operator.
-pub op_is : (kind : TokenKind) (text : List ℕ) → 70 ≤ kind_sign kind text → (o : Op) × (kind ≡ k.Op o)
+pub op_is : (kind : TokenKind) (text : List ℕ) → 70 ≤ kind_terminal kind text → (o : Op) × (kind ≡ k.Op o)
 op_is k.Line text h = absurd (omega arith)
 op_is k.Name text h = absurd (omega (arith, name_low text, h))
 op_is k.Const text h = absurd (omega arith)

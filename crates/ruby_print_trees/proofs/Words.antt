@@ -21,9 +21,10 @@ use Rattle.ruby_token.specs.Lexemes.{IsIn}
 use Rattle.ruby_token.proofs.Words.{split_if}
 use Rattle.ruby_token.proofs.Cuts.{take_front}
 use Rattle.ruby_grammar.specs.Words.{Word}
-use Rattle.ruby_grammar.specs.Signs.{op_sign, sign, kind_sign, is, ends_in_suffix, is_name, is_variable, is_const}
-use Rattle.ruby_grammar.specs.Signs.{is_ivar, is_sym, is_label, is_int, is_text_piece, Level, units, products, sums}
-use Rattle.ruby_grammar.specs.Signs.{comparisons, equalities, conjunctions, disjunctions, is_operator}
+use Rattle.ruby_grammar.specs.Terminals.{op_terminal, terminal, kind_terminal, is, ends_in_suffix, is_name, is_variable}
+use Rattle.ruby_grammar.specs.Terminals.{is_const}
+use Rattle.ruby_grammar.specs.Terminals.{is_ivar, is_sym, is_label, is_int, is_text_piece, Level, units, products, sums}
+use Rattle.ruby_grammar.specs.Terminals.{comparisons, equalities, conjunctions, disjunctions, is_operator}
 use Rattle.ruby_grammar.specs.Rules.{Name}
 use Rattle.ruby_grammar.specs.Values.{number_of, behind_sign, before_colon, text_bytes, operation}
 use Rattle.ruby_grammar.proofs.Tools.{and_true}
@@ -79,7 +80,7 @@ plain_of (naming.suffixed {n = t} q p s) h = absurd (no_suffix (ends_in_suffix (
 
 -- ---- words
 
--- a word of the kind that stands for this sign
+-- a word of the kind that stands for this terminal
 of_kind : (w : Word) (kind : TokenKind) → w.kind ≡ kind → (s : Sound w) → l.Is s.state (l.token kind) w.text s.rest
 of_kind w kind e s = subst (λ x. l.Is s.state (l.token x) w.text s.rest) e s.spelled
 
@@ -158,49 +159,51 @@ is_called n = (n == 73) || (nat_le 75 n && nat_le n 83)
 
 abbrev rows_named : List (List ℕ × Op) → Bool
 rows_named [] = true
-rows_named (row ∷ rows) = (not (is_called (op_sign row.1)) || is_operation row.0) && rows_named rows
+rows_named (row ∷ rows) = (not (is_called (op_terminal row.1)) || is_operation row.0) && rows_named rows
 
 either_named : (a b : Bool) → (not a || b) ≡ true → a ≡ true → b ≡ true
 either_named true b h e = h
 either_named false b h e = cc
 
 row_named : {rows : List (List ℕ × Op)} {t : List ℕ} {x : Op} → Row rows t x → rows_named rows ≡ true →
-    is_called (op_sign x) ≡ true → is_operation t ≡ true
-row_named (first_row {t = t} {x = x}) h c = either_named (is_called (op_sign x)) (is_operation t) (and_true _ _ h).0 c
-row_named (later_row {q = q} r) h c = row_named r (and_true (not (is_called (op_sign q.1)) || is_operation q.0) _ h).1 c
+    is_called (op_terminal x) ≡ true → is_operation t ≡ true
+row_named (first_row {t = t} {x = x}) h c = either_named (is_called (op_terminal x)) (is_operation t)
+    (and_true _ _ h).0 c
+row_named (later_row {q = q} r) h c =
+    row_named r (and_true (not (is_called (op_terminal q.1)) || is_operation q.0) _ h).1 c
 
 operator_text : {s : State} {t r : List ℕ} {x : Op} → InCode s (l.token (k.Op x)) t r →
-    is_called (op_sign x) ≡ true → is_operation t ≡ true
+    is_called (op_terminal x) ≡ true → is_operation t ≡ true
 operator_text (operator r h) c = row_named r refl c
 
 called_high : (n : ℕ) → is_called n ≡ true → 70 ≤ n
 called_high n h = grind (arith, nat_tests)
 
-called_text : (w : Word) → Sound w → is_called (sign w) ≡ true → is_operation w.text ≡ true
+called_text : (w : Word) → Sound w → is_called (terminal w) ≡ true → is_operation w.text ≡ true
 called_text w s c =
-    let o = op_is w.kind w.text (called_high (sign w) c) in
+    let o = op_is w.kind w.text (called_high (terminal w) c) in
     let i = in_code s.state (l.token (k.Op o.0)) w.text s.rest (of_kind w (k.Op o.0) o.1 s) refl in
-    operator_text i (subst (λ x. is_called (kind_sign x w.text) ≡ true) o.1 c)
+    operator_text i (subst (λ x. is_called (kind_terminal x w.text) ≡ true) o.1 c)
 
-abbrev operator_sign : Level → ℕ → Bool
-operator_sign disjunctions n = n == 70
-operator_sign conjunctions n = n == 71
-operator_sign equalities n = (n == 73) || (n == 74)
-operator_sign comparisons n = (n == 75) || (n == 76) || (n == 77) || (n == 78)
-operator_sign sums n = (n == 79) || (n == 80)
-operator_sign products n = (n == 81) || (n == 82) || (n == 83)
-operator_sign units n = false
+abbrev operator_terminal : Level → ℕ → Bool
+operator_terminal disjunctions n = n == 70
+operator_terminal conjunctions n = n == 71
+operator_terminal equalities n = (n == 73) || (n == 74)
+operator_terminal comparisons n = (n == 75) || (n == 76) || (n == 77) || (n == 78)
+operator_terminal sums n = (n == 79) || (n == 80)
+operator_terminal products n = (n == 81) || (n == 82) || (n == 83)
+operator_terminal units n = false
 
-is_sign : (level : Level) (w : Word) → is_operator level w ≡ operator_sign level (sign w)
-is_sign disjunctions w = refl
-is_sign conjunctions w = refl
-is_sign equalities w = refl
-is_sign comparisons w = refl
-is_sign sums w = refl
-is_sign products w = refl
-is_sign units w = refl
+is_terminal : (level : Level) (w : Word) → is_operator level w ≡ operator_terminal level (terminal w)
+is_terminal disjunctions w = refl
+is_terminal conjunctions w = refl
+is_terminal equalities w = refl
+is_terminal comparisons w = refl
+is_terminal sums w = refl
+is_terminal products w = refl
+is_terminal units w = refl
 
-called_of : (level : Level) (n : ℕ) → operator_sign level n ≡ true → (n == 70) ≡ false → (n == 71) ≡ false →
+called_of : (level : Level) (n : ℕ) → operator_terminal level n ≡ true → (n == 70) ≡ false → (n == 71) ≡ false →
     (n == 74) ≡ false → is_called n ≡ true
 called_of disjunctions n h a b c = grind (arith, nat_tests)
 called_of conjunctions n h a b c = grind (arith, nat_tests)
@@ -217,4 +220,4 @@ operation_of level w names x y h s i j =
     split_if (λ z. Formed names one z) (is 70 w) _ _ (λ e. is_or i j) (λ a.
     split_if (λ z. Formed names one z) (is 71 w) _ _ (λ e. is_and i j) (λ b.
     split_if (λ z. Formed names one z) (is 74 w) _ _ (λ e. is_not (is_operation_of i refl j)) (λ c.
-    is_operation_of i (called_text w s (called_of level (sign w) (sym (is_sign level w) ∙ h) a b c)) j)))
+    is_operation_of i (called_text w s (called_of level (terminal w) (sym (is_terminal level w) ∙ h) a b c)) j)))

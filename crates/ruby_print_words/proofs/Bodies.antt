@@ -12,7 +12,7 @@ use Rattle.ruby_token.specs.declared.token.TokenKind.TheVariants as k
 use Rattle.ruby_token.specs.declared.token.Op.TheVariants as op
 use Rattle.ruby_print.specs.Statements.{deeper}
 use Rattle.ruby_print.specs.Definitions.{symbol}
-use Rattle.ruby_grammar.specs.Signs.{has, name_sign}
+use Rattle.ruby_grammar.specs.Terminals.{has, name_terminal}
 use Rattle.ruby_grammar.specs.Marks.{Mark, assigns, opens_module, opens_class, gives_parent, defines}
 use Rattle.ruby_grammar.specs.Rules.{PathOpening, opened_path}
 use Rattle.ruby_grammar.specs.Rules.{ruby, Name, Path, Body, Heading, a_def, path_rest, parameter_list, more_parameters}
@@ -220,7 +220,7 @@ readers_read path names ds l e h =
 
 -- ---- methods
 
-heading_told : (path : Path) (single : Bool) (called : Name) → name_sign called ≡ 0 → (n : ℕ) →
+heading_told : (path : Path) (single : Bool) (called : Name) → name_terminal called ≡ 0 → (n : ℕ) →
     Tells n (rule.heading path) (heading single called) (deed path (defines single called) ∷ [])
     (record { single = single; name = called })
 heading_told path true called free n =
@@ -252,7 +252,7 @@ parameters_told (suc l) (o ∷ params) h u n =
 
 -- A printed method is read as it is.
 pub method_read : (path : Path) (single : Bool) (t : Name) (params after : List Name) (ss : List Stmt) (l : ℕ) →
-    at_top path ≡ false → name_sign t ≡ 0 → FormedParameters [] params →
+    at_top path ≡ false → name_terminal t ≡ 0 → FormedParameters [] params →
     Under (λ l. Under (λ l. Unit {0}) l × Several (sets_in single t) params ss after l) l →
     One path (def.Method single t params ss) (deed path (defines single t) ∷ []) l
 method_read path single t params after ss zero e free f h = absurd h

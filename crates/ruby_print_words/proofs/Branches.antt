@@ -8,7 +8,7 @@ use Rattle.ruby_types.specs.declared.tree.Stmt.TheVariants as stmt
 use Rattle.descent.specs.Grammar.{Among, first, later}
 use Rattle.ruby_token.specs.Bytes.{Every, is_word, is_lower, is_suffix}
 use Rattle.ruby_print.specs.Statements.{deeper}
-use Rattle.ruby_grammar.specs.Signs.{name_sign, is_variable, ends_in_suffix}
+use Rattle.ruby_grammar.specs.Terminals.{name_terminal, is_variable, ends_in_suffix}
 use Rattle.ruby_grammar.specs.Rules.{ruby, Name, Around, Known, a_statement, then_or_line, perhaps_line, arms_rest}
 use Rattle.ruby_grammar.specs.Rules.{condition_behind, perhaps_expression}
 use Rattle.ruby_grammar.specs.Rules as rule
@@ -62,7 +62,7 @@ both_true false b h e = cc
 
 -- A printed name of a variable passes the test for one.
 pub variable_passes : (n gap : List ℕ) → IsVariableName n → (at : ℕ) → is_variable (word_at at (name gap n)) ≡ true
-variable_passes n gap h at = both_true (name_sign n == 0) (ends_in_suffix n) (ap (λ m. m == 0) h.free)
+variable_passes n gap h at = both_true (name_terminal n == 0) (ends_in_suffix n) (ap (λ m. m == 0) h.free)
     (plain_ends n h.spelled)
 
 -- A printed assignment is read as it is.

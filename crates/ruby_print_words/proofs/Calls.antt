@@ -8,7 +8,7 @@ use Rattle.ruby_types.specs.declared.tree.Expr.TheVariants as expr
 use Rattle.descent.specs.Grammar.{first, later}
 use Rattle.ruby_token.specs.Bytes.{is_lower}
 use Rattle.ruby_print.specs.Expressions.{is_operator}
-use Rattle.ruby_grammar.specs.Signs.{name_sign}
+use Rattle.ruby_grammar.specs.Terminals.{name_terminal}
 use Rattle.ruby_grammar.specs.Rules.{Name, perhaps_arguments, postfix, more_postfix}
 use Rattle.ruby_grammar.specs.Statements.{scope}
 use Rattle.ruby_print_pieces.specs.Pieces.{Piece, name, dot, open_paren, close_paren, open_bracket, close_bracket}
@@ -23,7 +23,7 @@ use Rattle.ruby_print_words.proofs.Lists.{Members}
 -- ---- on self
 
 -- A printed call on self is read as it is.
-pub self_call_ready : (names : List Name) (l : ℕ) (n : Name) (xs : List Expr) → name_sign n ≡ 0 →
+pub self_call_ready : (names : List Name) (l : ℕ) (n : Name) (xs : List Expr) → name_terminal n ≡ 0 →
     Under (Members names xs) l → Ready names (expr.Call None n xs) l
 self_call_ready names zero n xs free h = absurd h
 self_call_ready names (suc l) n xs free h =
@@ -66,7 +66,7 @@ by_name on n args gap inside (unmarked (plain_name {b} {t} h every)) = by_lower 
 by_name on n args gap inside (suffixed q (plain_name {b} {t} h every) is) =
     by_lower on b (t ++ q ∷ []) args gap inside h
 
-call_goes_on : {names : List Name} {l : ℕ} (x : Expr) (n : Name) (xs : List Expr) → name_sign n ≡ 0 →
+call_goes_on : {names : List Name} {l : ℕ} (x : Expr) (n : Name) (xs : List Expr) → name_terminal n ≡ 0 →
     Ready names x l → Under (Members names xs) l →
     (gap : List ℕ) (more : List Piece) (y : Expr) →
     Reads (more_postfix (scope l names) (expr.Call (Some x) n xs)) more y →
@@ -79,7 +79,7 @@ call_goes_on {names} {l} x n xs free r h gap more y g =
     (takes (is_free n [] free) (λ n. refl) (then_ (arguments_read names l xs h) (says g))))))
 
 -- A printed call behind a point is read as it is.
-pub call_ready : (names : List Name) (l : ℕ) (x : Expr) (n : Name) (xs : List Expr) → IsName n → name_sign n ≡ 0 →
+pub call_ready : (names : List Name) (l : ℕ) (x : Expr) (n : Name) (xs : List Expr) → IsName n → name_terminal n ≡ 0 →
     Ready names x l → Under (Members names xs) l → Ready names (expr.Call (Some x) n xs) l
 call_ready names l x n xs named free r h =
     open_ready (λ gap. expression x gap true ++ (dot ∷ name [] n ∷ arguments (map expression xs)))

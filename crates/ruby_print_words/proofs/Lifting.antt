@@ -3,8 +3,9 @@ use Rattle.std.proofs.Common.{◌≡◌, ℕ, zero, suc, Bool, true, false, List
 use Rattle.ruby_types.specs.declared.tree.Expr.{Expr}
 use Rattle.descent.specs.Grammar.{first, later}
 use Rattle.ruby_token.specs.declared.token.Op.{Op}
-use Rattle.ruby_grammar.specs.Signs.{Level, units, products, sums, comparisons, equalities, conjunctions, disjunctions}
-use Rattle.ruby_grammar.specs.Signs.{tighter, is_operator, repeats}
+use Rattle.ruby_grammar.specs.Terminals.{Level, units, products, sums, comparisons, equalities, conjunctions}
+use Rattle.ruby_grammar.specs.Terminals.{disjunctions}
+use Rattle.ruby_grammar.specs.Terminals.{tighter, is_operator, repeats}
 use Rattle.ruby_grammar.specs.Rules.{Name, Scope, operators, more_operators, unary, postfix, more_postfix, primary}
 use Rattle.ruby_grammar.specs.Rules.{choice_rest}
 use Rattle.ruby_grammar.specs.Rules as rule

@@ -7,8 +7,9 @@ use Rattle.ruby_types.specs.declared.tree.Expr.TheVariants as expr
 use Rattle.descent.specs.Grammar.{first, later}
 use Rattle.ruby_token.specs.declared.token.Op.{Op}
 use Rattle.ruby_token.specs.declared.token.Op.TheVariants as op
-use Rattle.ruby_grammar.specs.Signs.{Level, units, products, sums, comparisons, equalities, conjunctions, disjunctions}
-use Rattle.ruby_grammar.specs.Signs.{is_operator}
+use Rattle.ruby_grammar.specs.Terminals.{Level, units, products, sums, comparisons, equalities, conjunctions}
+use Rattle.ruby_grammar.specs.Terminals.{disjunctions}
+use Rattle.ruby_grammar.specs.Terminals.{is_operator}
 use Rattle.ruby_grammar.specs.Rules.{Name, unary}
 use Rattle.ruby_grammar.specs.Rules as rule
 use Rattle.ruby_grammar.specs.Statements.{scope}

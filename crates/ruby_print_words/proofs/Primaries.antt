@@ -6,7 +6,7 @@ use Rattle.ruby_types.specs.declared.tree.ConstRef.{ConstRef}
 use Rattle.ruby_types.specs.declared.tree.Expr.TheVariants as expr
 use Rattle.descent.specs.Grammar.{first, later}
 use Rattle.ruby_token.specs.declared.token.TokenKind.TheVariants as k
-use Rattle.ruby_grammar.specs.Signs.{has, name_sign, is_name}
+use Rattle.ruby_grammar.specs.Terminals.{has, name_terminal, is_name}
 use Rattle.ruby_grammar.specs.Rules.{Name, primary, path_rest}
 use Rattle.ruby_grammar.specs.Rules as rule
 use Rattle.ruby_grammar.specs.Expressions.{opening, call_from}
@@ -60,11 +60,11 @@ ivar_ready names l n = primary_ready (λ gap. piece gap k.Ivar (64 ∷ n) ∷ []
     (takes (λ n. refl) (λ n. refl) given))
 
 -- a name that is no reserved word
-pub is_free : (n gap : List ℕ) → name_sign n ≡ 0 → (at : ℕ) → is_name (word_at at (name gap n)) ≡ true
+pub is_free : (n gap : List ℕ) → name_terminal n ≡ 0 → (at : ℕ) → is_name (word_at at (name gap n)) ≡ true
 is_free n gap free at = ap (λ m. m == 0) free
 
 -- A printed local variable is read as one where it is known.
-pub local_ready : (names : List Name) (l : ℕ) (n : Name) → name_sign n ≡ 0 → has names n ≡ true →
+pub local_ready : (names : List Name) (l : ℕ) (n : Name) → name_terminal n ≡ 0 → has names n ≡ true →
     Ready names (expr.Local n) l
 local_ready names l n free known = primary_ready (λ gap. name gap n ∷ []) (pieces_of (expr.Local n) (expr.outs-Local n))
     (λ gap. reads (later (later (later (later (later (later (later first))))))) (takes (is_free n gap free) (λ n. refl)

@@ -141,7 +141,8 @@ moved-taken s t k r m shape tidy below moved fits none own depth alone quiet =
           elim (cases_eq j k) [
             | inl here ↦ ap (λ (x : Marks). x.running) (ap (λ i. mark t i) here
                 ∙ moved-mark s t k r m tidy below moved) ∙ idle_here
-            | inr away ↦ ap (λ (x : Marks). x.running) (moved-mark_other s t k r m moved j away) ∙ quiet idle_here j away
+            | inr away ↦ ap (λ (x : Marks). x.running) (moved-mark_other s t k r m moved j away)
+                ∙ quiet idle_here j away
           ];
       once = depth ∙ sym (ap (λ e. if is_some e then 1 else 0) own);
     }

@@ -2,10 +2,11 @@ use Rattle.std.proofs.Common.{◌≤◌, ◌∙◌, ◌∷◌, ◌++◌, [], len
 use Rattle.std.proofs.lemmas.Result.{err_from_is_err_and}
 use Rattle.descent.specs.Grammar.{give}
 use Rattle.ruby_types.specs.declared.tree.Expr.TheVariants as expr
-use Rattle.ruby_grammar.specs.Signs.{units, disjunctions, is_comma, is_ask, is_tight_paren, is_close_paren}
-use Rattle.ruby_grammar.specs.Signs.{is_tight_bracket}
-use Rattle.ruby_grammar.specs.Signs.{is_open_bracket, is_close_bracket, is_open_brace, is_close_brace, is_open_paren}
-use Rattle.ruby_grammar.specs.Signs.{is_inside_open, is_inside_close}
+use Rattle.ruby_grammar.specs.Terminals.{units, disjunctions, is_comma, is_ask, is_tight_paren, is_close_paren}
+use Rattle.ruby_grammar.specs.Terminals.{is_tight_bracket}
+use Rattle.ruby_grammar.specs.Terminals.{is_open_bracket, is_close_bracket, is_open_brace, is_close_brace}
+use Rattle.ruby_grammar.specs.Terminals.{is_open_paren}
+use Rattle.ruby_grammar.specs.Terminals.{is_inside_open, is_inside_close}
 use Rattle.ruby_grammar.specs.Rules as rules
 use Rattle.ruby_grammar.specs.Values.{name_alone}
 use Rattle.ruby_parse_cursor.specs.declared.fault.Fault.TheVariants as f

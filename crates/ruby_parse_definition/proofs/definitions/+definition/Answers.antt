@@ -1,7 +1,7 @@
 use Rattle.std.proofs.Common.{◌∙◌, sym, ◌<◌, length, arith}
 use Rattle.std.proofs.lemmas.Result.{err_from_is_err_and}
 use Rattle.ruby_parse_cursor.proofs.CodeLaws.{sees_code}
-use Rattle.ruby_grammar.specs.Signs.{is_line}
+use Rattle.ruby_grammar.specs.Terminals.{is_line}
 use Rattle.ruby_grammar.specs.Rules.{some_defs}
 use Rattle.ruby_parse_definition.specs.Places.{body_view}
 use Rattle.ruby_parse_definition.proofs.MarkedSteps.{then, stop, finish}

@@ -2,7 +2,7 @@ use Rattle.std.proofs.Common.{◌≤◌, ◌∙◌, ◌∷◌, ◌++◌, [], ap,
 use Rattle.std.proofs.lemmas.Result.{err_from_is_err_and}
 use Rattle.ruby_parse_cursor.specs.Views.{word_view}
 use Rattle.ruby_parse_definition.proofs.Steps.{drop_shorter, word_shorter}
-use Rattle.ruby_parse_definition.proofs.MemberLaws.{no_const, assign_lacks_sign, assign_clashes, assign_breaks}
+use Rattle.ruby_parse_definition.proofs.MemberLaws.{no_const, assign_lacks_terminal, assign_clashes, assign_breaks}
 use Rattle.ruby_parse_definition.proofs.MemberLaws.{assign_reads}
 use Rattle.ruby_parse_definition.proofs.members.assigned.Goals as goal
 
@@ -16,7 +16,7 @@ returns-in_err-word-clause-reads c =
 pub returns-in_err-take-clause-reads : goal.returns-in_err-take-clause-reads
 returns-in_err-take-clause-reads c =
     let p = err_from_is_err_and c.from_residual-in_err-take.result c.from_residual-in_err-take.ensures.1 in
-    rw (p.1, p.2) (assign_lacks_sign c.args.place.levels c.args.marks.now.here c.args.marks.now c.args.cursor.now
+    rw (p.1, p.2) (assign_lacks_terminal c.args.place.levels c.args.marks.now.here c.args.marks.now c.args.cursor.now
     (word_view c.in_ok-word.word) c.take_word.new.self c.in_ok-word.ensures.ok c.in_ok-word.ensures.terminal _
     c.args.marks.now c.take.new.self c.in_err-take.ensures.stays c.in_err-take.ensures.other
     c.in_err-take.ensures.fault)

@@ -1,7 +1,7 @@
 use Rattle.std.proofs.Common.{true, false, ◌∙◌, ◌<◌, ◌≤◌, [], Ok, Err, refl, sym, subst, length, arith}
 use Rattle.std.proofs.lemmas.Grind.{common_steps}
 use Rattle.std.proofs.lemmas.Result.{err_from_is_err_and}
-use Rattle.ruby_grammar.specs.Signs.{is_line}
+use Rattle.ruby_grammar.specs.Terminals.{is_line}
 use Rattle.ruby_grammar.specs.Rules as rules
 use Rattle.ruby_grammar.specs.Statements.{known, block}
 use Rattle.ruby_types.specs.declared.tree.Stmt.TheVariants as stmt

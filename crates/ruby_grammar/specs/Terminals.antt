@@ -15,62 +15,62 @@ code_in [] name = 0
 code_in (row ∷ rows) name = if bytes_eq row.0 name then row.1 else code_in rows name
 
 -- Names: 1 to 17 for a reserved word, 18 to 47 for a left-out one, 0 for any other.
-abbrev pub name_sign : List ℕ → ℕ
-name_sign text = code_in word_rows text
+abbrev pub name_terminal : List ℕ → ℕ
+name_terminal text = code_in word_rows text
 
-abbrev pub op_sign : Op → ℕ
-op_sign op.OrElse = 70
-op_sign op.AndAlso = 71
-op_sign op.Not = 72
-op_sign op.Same = 73
-op_sign op.Differs = 74
-op_sign op.Less = 75
-op_sign op.AtMost = 76
-op_sign op.More = 77
-op_sign op.AtLeast = 78
-op_sign op.Plus = 79
-op_sign op.Minus = 80
-op_sign op.Times = 81
-op_sign op.Divide = 82
-op_sign op.Modulo = 83
-op_sign op.Ask = 84
-op_sign op.Colon = 85
-op_sign op.Path = 86
-op_sign op.Dot = 87
-op_sign op.Comma = 88
-op_sign op.Assign = 89
-op_sign op.Arrow = 90
-op_sign op.OpenParen = 91
-op_sign op.CloseParen = 92
-op_sign op.OpenBracket = 93
-op_sign op.CloseBracket = 94
-op_sign op.OpenBrace = 95
-op_sign op.CloseBrace = 96
-op_sign op.Bar = 97
-op_sign _ = 99
+abbrev pub op_terminal : Op → ℕ
+op_terminal op.OrElse = 70
+op_terminal op.AndAlso = 71
+op_terminal op.Not = 72
+op_terminal op.Same = 73
+op_terminal op.Differs = 74
+op_terminal op.Less = 75
+op_terminal op.AtMost = 76
+op_terminal op.More = 77
+op_terminal op.AtLeast = 78
+op_terminal op.Plus = 79
+op_terminal op.Minus = 80
+op_terminal op.Times = 81
+op_terminal op.Divide = 82
+op_terminal op.Modulo = 83
+op_terminal op.Ask = 84
+op_terminal op.Colon = 85
+op_terminal op.Path = 86
+op_terminal op.Dot = 87
+op_terminal op.Comma = 88
+op_terminal op.Assign = 89
+op_terminal op.Arrow = 90
+op_terminal op.OpenParen = 91
+op_terminal op.CloseParen = 92
+op_terminal op.OpenBracket = 93
+op_terminal op.CloseBracket = 94
+op_terminal op.OpenBrace = 95
+op_terminal op.CloseBrace = 96
+op_terminal op.Bar = 97
+op_terminal _ = 99
 
-abbrev pub kind_sign : TokenKind → List ℕ → ℕ
-kind_sign k.Line text = 50
-kind_sign k.Name text = name_sign text
-kind_sign k.Const text = 51
-kind_sign k.Ivar text = 52
-kind_sign k.Label text = 53
-kind_sign k.Sym text = 54
-kind_sign k.Int text = 55
-kind_sign k.TextOpen text = 56
-kind_sign k.TextPiece text = 57
-kind_sign k.InsideOpen text = 58
-kind_sign k.InsideClose text = 59
-kind_sign k.TextClose text = 60
-kind_sign (k.Op o) text = op_sign o
+abbrev pub kind_terminal : TokenKind → List ℕ → ℕ
+kind_terminal k.Line text = 50
+kind_terminal k.Name text = name_terminal text
+kind_terminal k.Const text = 51
+kind_terminal k.Ivar text = 52
+kind_terminal k.Label text = 53
+kind_terminal k.Sym text = 54
+kind_terminal k.Int text = 55
+kind_terminal k.TextOpen text = 56
+kind_terminal k.TextPiece text = 57
+kind_terminal k.InsideOpen text = 58
+kind_terminal k.InsideClose text = 59
+kind_terminal k.TextClose text = 60
+kind_terminal (k.Op o) text = op_terminal o
 
-abbrev pub sign : Word → ℕ
-sign w = kind_sign w.kind w.text
+abbrev pub terminal : Word → ℕ
+terminal w = kind_terminal w.kind w.text
 
 -- ---- the tests of the grammar
 
 abbrev pub is : ℕ → Word → Bool
-is n w = sign w == n
+is n w = terminal w == n
 
 abbrev pub is_name : Word → Bool
 is_name = is 0
@@ -216,7 +216,7 @@ is_tight_bracket w = is_open_bracket w && w.tight
 
 -- a word that the profile leaves out, or an operator that it does
 abbrev pub is_left_out : Word → Bool
-is_left_out w = (nat_le 18 (sign w) && nat_le (sign w) 47) || (sign w == 99)
+is_left_out w = (nat_le 18 (terminal w) && nat_le (terminal w) 47) || (terminal w == 99)
 
 -- ---- names
 
