@@ -2,7 +2,7 @@
 
 use lists::{Listed, Text};
 use outside::{
-    CallNumbers, MemSink, MemSource, ReadAns, Sink, Source, WriteAns, Delivery, write_all,
+    CallNumbers, Delivery, MemSink, MemSource, ReadAns, Sink, Source, WriteAns, write_all,
 };
 use std::alloc::{AllocError, Global};
 use std::test::Fail;

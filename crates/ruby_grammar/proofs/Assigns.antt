@@ -61,8 +61,13 @@ clean_forms (expression here) h = ((refl, λ y. (refl, λ z. tt)), tt)
 clean_forms (choice_rest here x) h = (
   λ w t. (
     unless_terminal 89 is_ask is_assign w (terminal_is 89 w) (λ e. rw e refl) t,
-    (refl, λ y. λ w t. (unless_terminal 89 is_colon is_assign w (terminal_is 89 w) (λ e. rw e refl) t,
-        (refl, λ z. tt))),
+    (
+      refl,
+      λ y. λ w t. (
+        unless_terminal 89 is_colon is_assign w (terminal_is 89 w) (λ e. rw e refl) t,
+        (refl, λ z. tt),
+      ),
+    ),
   ),
   (tt, tt),
 )
@@ -96,8 +101,10 @@ clean_forms (more_operators comparisons here x) h = (
   (tt, tt),
 )
 clean_forms (more_operators equalities here x) h = (
-  λ w t. (unless_terminal 89 (is_operator equalities) is_assign w (terminal_is 89 w) (λ e. rw e refl) t,
-      (refl, λ y. tt)),
+  λ w t. (
+    unless_terminal 89 (is_operator equalities) is_assign w (terminal_is 89 w) (λ e. rw e refl) t,
+    (refl, λ y. tt),
+  ),
   (tt, tt),
 )
 clean_forms (more_operators conjunctions here x) h = (
@@ -234,8 +241,16 @@ clean_forms (more_pairs here xs) h =
     (λ w t. (unless_terminal 89 is_comma is_assign w (terminal_is 89 w) (λ e. rw e refl) t, (refl, λ y. tt)), (tt, tt))
 clean_forms (pair here) h = (
   λ w t. (unless_terminal 89 is_label is_assign w (terminal_is 89 w) (λ e. rw e refl) t, (refl, λ y. tt)),
-  ((refl, λ x. λ w t. (unless_terminal 89 is_arrow is_assign w (terminal_is 89 w) (λ e. rw e refl) t,
-      (refl, λ y. tt))), tt),
+  (
+    (
+      refl,
+      λ x. λ w t. (
+        unless_terminal 89 is_arrow is_assign w (terminal_is 89 w) (λ e. rw e refl) t,
+        (refl, λ y. tt),
+      ),
+    ),
+    tt,
+  ),
 )
 clean_forms (text_parts here double parts) h = (
   λ w t. (unless_terminal 89 is_text_piece is_assign w (terminal_is 89 w) (λ e. rw e refl) t, (refl, λ y. tt)),

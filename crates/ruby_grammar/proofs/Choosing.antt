@@ -426,7 +426,7 @@ picked_forms evaluates _ (statement here) = (
       (e.opening here.levels (s.if_from here)) _
       (each_level (Picked (statement here)) here.levels (s.if_from here)
       (λ n q. ct (statement here) is_if _
-          (λ w b t. rw (terminal_is 5 w t) (deepen_is here.levels n (s.if_from here) q))))
+      (λ w b t. rw (terminal_is 5 w t) (deepen_is here.levels n (s.if_from here) q))))
       (each_level (Picked (statement here)) here.levels (s.unless_from here)
       (λ n q. ct (statement here) is_unless _
       (λ w b t. rw (terminal_is 8 w t) (deepen_is here.levels n (s.unless_from here) q)))),

@@ -123,7 +123,7 @@ primary_all here = (
                     ),
                     both starts_primary (e.opening here.levels (e.array_from here)) _
                         (by_opening starts_primary here.levels (e.array_from here)
-                            (λ n w t. rw (terminal_is 93 w t) refl))
+                        (λ n w t. rw (terminal_is 93 w t) refl))
                         (both starts_primary (e.opening here.levels (e.hash_from here)) _
                         (by_opening starts_primary here.levels (e.hash_from here)
                         (λ n w t. rw (terminal_is 95 w t) refl))

@@ -78,7 +78,7 @@ pub block_cases : (w : Word) (Q : Type 0) → (terminal w ≡ 4 → Q) → (term
     ends_block w ≡ true → Q
 block_cases w Q a b c h = either (is_end w || is_elsif w) (is_else w) h
     (λ t. either (is_end w) (is_elsif w) t (λ u. a (terminal_is 4 w u)) (λ u. b (terminal_is 6 w u)))
-        (λ u. c (terminal_is 7 w u))
+    (λ u. c (terminal_is 7 w u))
 
 pub statement_cases : (w : Word) (Q : Type 0) → (terminal w ≡ 50 → Q) → (terminal w ≡ 4 → Q) → (terminal w ≡ 6 → Q) →
     (terminal w ≡ 7 → Q) → ends_statement w ≡ true → Q
@@ -159,7 +159,7 @@ operator_not : (level : Level) (w : Word) → is_operator level w ≡ true → g
 operator_not units w h = cc
 operator_not products w h = either (Terminals.is 81 w || Terminals.is 82 w) (Terminals.is 83 w) h
     (λ t. either (Terminals.is 81 w) (Terminals.is 82 w) t (λ u. rw (terminal_is 81 w u) refl)
-        (λ u. rw (terminal_is 82 w u) refl))
+    (λ u. rw (terminal_is 82 w u) refl))
     (λ u. rw (terminal_is 83 w u) refl)
 operator_not sums w h = either (Terminals.is 79 w) (Terminals.is 80 w) h (λ u. rw (terminal_is 79 w u) refl)
     (λ u. rw (terminal_is 80 w u) refl)
@@ -334,8 +334,12 @@ branch_follows : (closed : Bool) (levels : ℕ) (sets may_elsif : Bool) (arms : 
     Each (λ p. Follows ruby_grammar ruby_follow (λ a. true) p) (s.branch_forms closed levels sets may_elsif arms b)
 branch_follows true levels sets may_elsif arms b = (
   λ w t y. (
-    λ c. (λ w2 t2. tt, tt, tk a_statement (λ a. true) (next_is ends_block) is_end _
-        (λ v u. rw (terminal_is 4 v u) refl)),
+    λ c. (
+      λ w2 t2. tt,
+      tt,
+      tk a_statement (λ a. true) (next_is ends_block) is_end _
+          (λ v u. rw (terminal_is 4 v u) refl),
+    ),
     (refl, λ c. tt),
     no_line_next a_statement (λ a. true) (s.around levels sets b.names) [] _
         (λ c. tk a_statement (λ a. true) (none_is is_line) is_end _ (λ v u. rw (terminal_is 4 v u) refl)),
@@ -963,7 +967,7 @@ follows_forms (definition here) =
                 (parent (here.path ++ path) w2.at) _ refl
                 (λ v u. opened_fits (d.at_top here.path) _ (w2.text ∷ []) v
                 (either (is_less v) (is_line v) u (λ z. rw (terminal_is 75 v z) refl)
-                    (λ z. rw (terminal_is 50 v z) refl))),
+                (λ z. rw (terminal_is 50 v z) refl))),
           ))),
     )
     (member_follows (d.at_top here.path) here)

@@ -107,7 +107,7 @@ module _ (here inner : Scope) (n : ℕ) (ws mid : List Word) (l : here.levels �
       enclosed_lacks_close {s = an_expression} {v = some_expressions} (primary here) (λ h. members h [])
       (λ xs. give (expr.Array xs)) is_open_bracket is_close_bracket here inner n ws mid
       (chosen_at here ws 93 _ (terminal_is 93 ws p) refl refl ∙ ap (λ m. deepen m (array_from here)) l) p d i xs
-          behind a c
+      behind a c
 
   -- ---- `{..}`
   -- Pairs in braces.
@@ -137,7 +137,7 @@ module _ (here inner : Scope) (n : ℕ) (ws mid : List Word) (l : here.levels �
       enclosed_lacks_close {s = an_expression} {v = some_pairs} (primary here) (λ h. pairs h [])
       (λ ps. give (expr.Hash ps)) is_open_brace is_close_brace here inner n ws mid
       (chosen_at here ws 95 _ (terminal_is 95 ws p) refl refl ∙ ap (λ m. deepen m (hash_from here)) l) p d i ps
-          behind a c
+      behind a c
 
   -- ---- `(..)`
   -- An expression in parentheses.

@@ -37,9 +37,9 @@ impl<M: Matter> Model for System<M> {
     ghost Value = { Book M M.Task M.Value M.Program M.Request M.Reply M.Fault };
 
     ghost view = { λ s. record {
-        state = state_of s.entries.items s.seats s.facts.items s.counts;
-        room = vec_capacity s.entries - vec_len s.entries;
-        values = min (vec_capacity s.facts - vec_len s.facts) s.places.room
+      state = state_of s.entries.items s.seats s.facts.items s.counts;
+      room = vec_capacity s.entries - vec_len s.entries;
+      values = min (vec_capacity s.facts - vec_len s.facts) s.places.room;
     } };
 
     ghost invariant = { λ s. IsKept M.facts s.entries.items s.seats s.facts.items s.places.hashes s.counts };
