@@ -11,11 +11,13 @@ text_push [] x = grind (arith, common_steps)
 text_push (y ∷ ys) x = ap (λ t. t ++ piece_text y) (text_push ys x)
     ∙ append_assoc (piece_text x) (pending_text ys) (piece_text y)
 
-depth_push : (xs : List Pending) (x : Pending) → depth (xs ++ x ∷ []) ≡ max (depth xs) (piece_depth x)
+-- A piece that is put on what is pending makes it as deep as the deeper of both.
+pub depth_push : (xs : List Pending) (x : Pending) → depth (xs ++ x ∷ []) ≡ max (depth xs) (piece_depth x)
 depth_push [] x = refl
 depth_push (y ∷ ys) x = let e = depth_push ys x in omega arith
 
-steps_push : (xs : List Pending) (x : Pending) → steps (xs ++ x ∷ []) ≡ steps xs + piece_steps x
+-- A piece that is put on what is pending adds its steps.
+pub steps_push : (xs : List Pending) (x : Pending) → steps (xs ++ x ∷ []) ≡ steps xs + piece_steps x
 steps_push [] x = refl
 steps_push (y ∷ ys) x = let e = steps_push ys x in omega arith
 
