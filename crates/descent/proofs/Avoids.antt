@@ -29,6 +29,7 @@ both_good avoided (w ∷ us) vs h k = (h.0, both_good avoided us vs h.1 k)
 module _ {g : Signs} (grammar : Grammar g) (avoided : Avoided g)
     (laws : (s : g.Sort) (rule : g.Rule s) (p : Prod g s) → Among p (grammar.alternatives rule) →
     avoided.clean rule ≡ true → Avoids avoided p) where
+  -- a sentence of a production that avoids the bad words has none of them, so no text of the rule has one
   pub avoids : {s : g.Sort} {p : Prod g s} {ts : List (Item g)} {x : g.Val s} → Is grammar s p ts x →
       Avoids avoided p → NoneBad avoided (words ts)
   avoids is_given h = tt

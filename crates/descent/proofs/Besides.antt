@@ -13,6 +13,7 @@ module _ {g : Signs} (grammar : Grammar g) (choices : Choices g) (lift : Lift g)
   only_up : Up lift s (only {g = g} {s = s} rule) (only {g = g} {s = s} (lift.up rule))
   only_up = up_call λ y. up_give
 
+  -- what begins a sentence of a rule begins one of the rule beside it, since that has all the alternatives
   pub begins_beside : (ws : List g.Word) → Begins grammar rule ws → Begins grammar (lift.up rule) ws
   begins_beside ws h = (
     h.0,
@@ -20,6 +21,7 @@ module _ {g : Signs} (grammar : Grammar g) (choices : Choices g) (lift : Lift g)
     (h.2.0, h.2.1, lift_is grammar choices lift lifts (only (lift.up rule)) h.2.2 only_up),
   )
 
+  -- the rule beside reads words with the same outcome, unless the outcome is a fault that the lift doesn't keep
   pub reads_beside : (ws : List g.Word) (o : Outcome g s) → Reads grammar choices s (only rule) [] ws o →
       Kept lift o → Reads grammar choices s (only (lift.up rule)) [] ws o
   reads_beside ws o a h = lift_reads grammar choices lift lifts (only (lift.up rule)) a only_up h

@@ -35,6 +35,7 @@ due_by : {g : Signs} (grammar : Grammar g) {s v : g.Sort} (p : Prod g s) (q : Pr
 due_by grammar p q ts us [] f d = tt
 due_by grammar p q ts us (w ∷ rest) f d = λ more x a. d (f w more x a).0 (f w more x a).1 (f w more x a).2
 
+-- no item is both a word and a mark: closes the cases of a split at the wrong kind of item
 pub not_marked : {g : Signs} (w : g.Word) (m : g.Mark) (t : Item g) → t ≡ word w → t ≡ marked m → ⊥
 not_marked w m t e e' = cc
 

@@ -9,11 +9,13 @@ use Rattle.descent.proofs.Lists.{words_before, marks_append, clear_first, clear_
 module _ {g : Signs} (grammar : Grammar g) where
   -- ---- sentences
 
+  -- a sentence of the called rule and then one of what goes on make a sentence of the call
   pub extend : {s v : g.Sort} {rule : g.Rule v} {next : g.Val v → Prod g s} {us vs : List (Item g)} {y : g.Val v}
       {x : g.Val s} →
       Is grammar v (only rule) us y → Is grammar s (next y) vs x → Is grammar s (call rule next) (us ++ vs) x
   extend {vs = vs} (is_called {us = us} am a is_given e) b = is_called am a b (rw e (ap (λ l. l ++ vs) (append-nil us)))
 
+  -- a sentence of one of a rule's alternatives is a sentence of the rule
   pub alone : {v : g.Sort} {rule : g.Rule v} {p : Prod g v} {us : List (Item g)} {y : g.Val v} →
       Among p (grammar.alternatives rule) → Is grammar v p us y → Is grammar v (only rule) us y
   alone {us = us} am a = is_called am a is_given (sym (append-nil us))
@@ -49,6 +51,7 @@ module _ {g : Signs} (grammar : Grammar g) (choices : Choices g) (follow : Follo
       first_is : (t : Item g) (m : g.Mark) (xs ys : List (Item g)) → t ∷ xs ≡ marked m ∷ ys → t ≡ marked m
       first_is t m xs ys e = cc
 
+  -- a sentence without a clash, before a word that may follow, is read whole and with its own value
   pub complete : {s : g.Sort} {p : Prod g s} {ts : List (Item g)} {x : g.Val s} (fit : Option g.Word → Bool)
       (ms : List g.Mark) (rest : List g.Word) →
       Is grammar s p ts x → Follows grammar follow fit p → Clear grammar ms ts → fit (head rest) ≡ true →

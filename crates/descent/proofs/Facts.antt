@@ -43,6 +43,7 @@ module _ {g : Signs} (grammar : Grammar g) (choices : Choices g) where
     pub reason : Reason grammar why (marks_after ms items) more
     pub again : (r : List g.Word) → SameHead rest r → Reads grammar choices s p ms (words items ++ r) (fault why r)
 
+  -- what an outcome says of the words: a sentence in front with this value, or the front of one up to the fault
   abbrev pub Front : {s : g.Sort} → Prod g s → List g.Mark → List g.Word → Outcome g s → Type 0
   Front p ms ws (done x ns rest) = Took p ms ws x ns rest
   Front p ms ws (fault why rest) = Failed p ms ws why rest
@@ -249,6 +250,7 @@ module _ {g : Signs} (grammar : Grammar g) (choices : Choices g) (follow : Follo
           same xs ys same_end c = c
           same xs ys same_word c = c
 
+  -- reading is sound: each outcome tells what it says of the words, by induction over the reading
   pub facts : {s : g.Sort} {p : Prod g s} {ms : List g.Mark} {ws : List g.Word} {o : Outcome g s} →
       Reads grammar choices s p ms ws o → Goes p → Front grammar choices p ms ws o
   facts by_give go = record {

@@ -25,21 +25,25 @@ module _ {g : Signs} (grammar : Grammar g) (firsts : Firsts g)
   given_nothing : {s : g.Sort} {y x : g.Val s} {ts : List (Item g)} → Is grammar s (give y) ts x → ts ≡ []
   given_nothing is_given = refl
 
+  -- behind a call that gives at once stands what follows the production: it fits where that fits
   pub before_give : {s : g.Sort} (fit fit' : Option g.Word → Bool) (y : g.Val s) →
       ((a : Option g.Word) → fit a ≡ true → fit' a ≡ true) → Fitting grammar fit fit' (give y)
   before_give fit fit' y f ts x rest a h = subst (λ l. fit' (head (words l ++ rest)) ≡ true) (sym (given_nothing a))
       (f (head rest) h)
 
+  -- behind a call stands a first word of what goes on: it fits where each word that passes the test fits
   pub before_start : {s : g.Sort} (fit fit' : Option g.Word → Bool) (q : g.Word → Bool) (p : Prod g s) →
       Starts firsts q p → ((w : g.Word) → q w ≡ true → fit' (Some w) ≡ true) → Fitting grammar fit fit' p
   before_start fit fit' q p h f ts x rest a k =
       let b = starts grammar firsts laws q a h in
       subst (λ l. fit' (head (l ++ rest)) ≡ true) (sym b.spelled) (f b.word_at b.passes)
 
+  -- behind a call stands a word that passes a test: it fits where each such word fits
   pub before_token : {s : g.Sort} (fit fit' : Option g.Word → Bool) (test : g.Word → Bool) (next : g.Word →
       Prod g s) → ((w : g.Word) → test w ≡ true → fit' (Some w) ≡ true) → Fitting grammar fit fit' (token test next)
   before_token fit fit' test next f = before_start fit fit' test (token test next) (λ w t. t) f
 
+  -- behind a call stands nothing more or a first word: it fits where both what follows and such words fit
   pub before_open : {s : g.Sort} (fit fit' : Option g.Word → Bool) (q : g.Word → Bool) (p : Prod g s) →
       Opening firsts q p → ((w : g.Word) → q w ≡ true → fit' (Some w) ≡ true) →
       ((a : Option g.Word) → fit a ≡ true → fit' a ≡ true) → Fitting grammar fit fit' p

@@ -39,6 +39,7 @@ first_items (marked m ∷ ts) (w ∷ a) b e =
     (marked m ∷ h.0, h.1, ap (λ l. marked m ∷ l) h.2, h.3)
 
 module _ {g : Signs} (grammar : Grammar g) {s : g.Sort} (rule : g.Rule s) where
+  -- what stands in front of words that begin a sentence begins one too: fronts of viable prefixes are viable
   pub begins_front : (a b : List g.Word) → Begins grammar rule (a ++ b) → Begins grammar rule a
   begins_front a b h =
       let k = first_items h.0 a b h.1 in (

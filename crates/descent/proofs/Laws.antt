@@ -4,9 +4,11 @@ use Rattle.descent.specs.Grammar.{Signs, Grammar, Prod, call}
 use Rattle.descent.specs.Reading.{Choice, Choices, take, choose, Outcome, done, fault, Why, Reads, by_give, by_word}
 use Rattle.descent.specs.Reading.{by_other, by_end, by_mark, by_clash, by_call, by_fault, by_depth, by_bar, by_nothing}
 
+-- one choice takes one production, so two readings of a call go on with the same alternative
 pub take_is : {g : Signs} {s : g.Sort} {p q : Prod g s} (c : Choice g s) → c ≡ take p → c ≡ take q → p ≡ q
 take_is c a b = cc
 
+-- a fault as an outcome at a named sort, where equations between outcomes leave the sort open
 abbrev pub fault_in : (g : Signs) (s : g.Sort) → Why g → List g.Word → Outcome g s
 fault_in g s why ws = fault why ws
 

@@ -63,6 +63,7 @@ Lost lift (Twice m) = ⊥
 
 module _ {g : Signs} (grammar : Grammar g) (choices : Choices g) (lift : Lift g) (lifts : Lifts grammar choices lift)
   where
+    -- a sentence of a production is a sentence, with the same value, of the production beside it
     pub lift_is : {s : g.Sort} {p : Prod g s} {ts : List (Item g)} {x : g.Val s} (q : Prod g s) → Is grammar s p ts x →
         Up lift s p q → Is grammar s q ts x
     lift_is q is_given up_give = is_given
@@ -79,6 +80,7 @@ module _ {g : Signs} (grammar : Grammar g) (choices : Choices g) (lift : Lift g)
     kept_part s v Barred rest h = h
     kept_part s v (Twice m) rest h = h
 
+    -- the production beside reads words with the same outcome, unless the lift doesn't keep the outcome's fault
     pub lift_reads : {s : g.Sort} {p : Prod g s} {ms : List g.Mark} {ws : List g.Word} {o : Outcome g s}
         (q : Prod g s) → Reads grammar choices s p ms ws o → Up lift s p q → Kept lift o →
         Reads grammar choices s q ms ws o

@@ -7,6 +7,7 @@ use Rattle.descent.specs.Lawful.{left}
 use Rattle.descent.proofs.Laws.{take_is}
 
 module _ {g : Signs} (grammar : Grammar g) (choices : Choices g) where
+  -- a reader never puts words back: what an outcome leaves is no longer than what was there
   pub shrinks : {s : g.Sort} {p : Prod g s} {ms : List g.Mark} {ws : List g.Word} {o : Outcome g s} →
       Reads grammar choices s p ms ws o → length (left o) ≤ length ws
   shrinks by_give = omega arith
@@ -26,6 +27,7 @@ module _ {g : Signs} (grammar : Grammar g) (choices : Choices g) where
   Moves {s} p ws = (ms : List g.Mark) (o : Outcome g s) → Reads grammar choices s p ms ws o →
       length (left o) < length ws
 
+  -- reading a word that passes its test leaves fewer words than there were
   pub moves_token : {s : g.Sort} (test : g.Word → Bool) (next : g.Word → Prod g s) (w : g.Word) (ws : List g.Word) →
       test w ≡ true → Moves (token test next) (w ∷ ws)
   moves_token test next w ws h ms o (by_word t a) = omega (arith, shrinks a)
@@ -34,6 +36,7 @@ module _ {g : Signs} (grammar : Grammar g) (choices : Choices g) where
   taken : {s : g.Sort} (p q : Prod g s) (ws : List g.Word) → p ≡ q → Moves p ws → Moves q ws
   taken p q ws e m = subst (λ r. Moves r ws) e m
 
+  -- a call passes a word where the alternative that it chooses does; serves the law of choices by two words
   pub moves_call : {s v : g.Sort} (rule : g.Rule v) (next : g.Val v → Prod g s) (p : Prod g v) (ws : List g.Word) →
       choose choices rule ws ≡ take p → Moves p ws → Moves (call rule next) ws
   moves_call rule next p ws c m ms o (by_call {p = q} {ns = ns} {rest = rest} {y = y} c' a b) =

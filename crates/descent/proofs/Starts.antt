@@ -27,6 +27,7 @@ pub record Begun {g : Signs} (q : g.Word → Bool) (ts : List (Item g)) : Type 0
 module _ {g : Signs} (grammar : Grammar g) (firsts : Firsts g)
     (laws : (s : g.Sort) (rule : g.Rule s) (p : Prod g s) → Among p (grammar.alternatives rule) →
     firsts.solid rule ≡ true → Starts firsts (firsts.first rule) p) where
+  -- where each sentence of a production has a first word, a given sentence does, and that word passes the test
   pub starts : {s : g.Sort} {p : Prod g s} {ts : List (Item g)} {x : g.Val s} (q : g.Word → Bool) →
       Is grammar s p ts x → Starts firsts q p → Begun q ts
   starts q is_given h = absurd h

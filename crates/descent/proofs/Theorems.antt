@@ -26,6 +26,7 @@ IsStop (fault (Twice m) ws) = ⊥
 abbrev done_in : (g : Signs) (s : g.Sort) → g.Val s → List g.Mark → List g.Word → Outcome g s
 done_in g s x ms ws = done x ms ws
 
+-- the words from where the reading stopped on, be it at a value or at a fault
 abbrev pub rest_of : {g : Signs} {s : g.Sort} → Outcome g s → List g.Word
 rest_of (done x ms ws) = ws
 rest_of (fault why ws) = ws
@@ -120,6 +121,7 @@ module _ {g : Signs} (grammar : Grammar g) (choices : Choices g) (follow : Follo
 
   -- ---- a text is read, in one way
 
+  -- each text of the rule is read whole, with its value (completeness)
   pub read : (ws : List g.Word) (x : g.Val s) → Spells grammar rule ws x → (ns : List g.Mark)
       × Reads grammar choices s (only rule) [] ws (done x ns [])
   read ws x a = (
@@ -129,6 +131,7 @@ module _ {g : Signs} (grammar : Grammar g) (choices : Choices g) (follow : Follo
         (complete grammar choices follow laws fit [] [] a.says only_follows a.clear ends),
   )
 
+  -- words that are read whole are a text of the rule with that value (soundness)
   pub found : (ws : List g.Word) (x : g.Val s) (ns : List g.Mark) →
       Reads grammar choices s (only rule) [] ws (done x ns []) → Spells grammar rule ws x
   found ws x ns a =
@@ -138,13 +141,16 @@ module _ {g : Signs} (grammar : Grammar g) (choices : Choices g) (follow : Follo
   same_value : (x y : g.Val s) (ms ns : List g.Mark) (r : List g.Word) → done_in g s x ms [] ≡ done y ns r → x ≡ y
   same_value x y ms ns r e = cc
 
+  -- a text has one value: the grammar is unambiguous, since reading is a function
   pub one_tree : (ws : List g.Word) (x y : g.Val s) → Spells grammar rule ws x → Spells grammar rule ws y → x ≡ y
   one_tree ws x y a b = same_value x y _ _ [] (det grammar choices (read ws x a).1 (read ws y b).1)
 
+  -- words at which the reading stops before their end, or at a fault of no mark, are no text of the rule
   pub stop_spells_none : (ws : List g.Word) (x : g.Val s) (o : Outcome g s) →
       Reads grammar choices s (only rule) [] ws o → IsStop o → Spells grammar rule ws x → ⊥
   stop_spells_none ws x o a h b = subst (λ o. IsStop o) (sym (det grammar choices (read ws x b).1 a)) h
 
+  -- words whose reading ends at a mark that clashes are no text of the rule
   pub twice_spells_none : (ws rest : List g.Word) (x : g.Val s) (m : g.Mark) →
       Reads grammar choices s (only rule) [] ws (fault (Twice m) rest) → Spells grammar rule ws x → ⊥
   twice_spells_none ws rest x m a b = apart (det grammar choices (read ws x b).1 a)
@@ -241,6 +247,7 @@ module _ {g : Signs} (grammar : Grammar g) (choices : Choices g) (follow : Follo
       (clashing grammar choices follow laws fit [] k.before k.viable.0 m [] k.rest a only_follows only_goes refl
       k.clear k.clash ends (inr (due_in k.before k.rest k.due)))
 
+  -- where the reading stops at no mark, nothing in front of that place counts twice
   pub no_clash : (ws : List g.Word) (o : Outcome g s) → Reads grammar choices s (only rule) [] ws o → IsStop o →
       NoClash grammar rule ws
   no_clash ws o a h = λ m k. subst (λ o. IsStop o) (det grammar choices a (read_clash ws m k)) h
@@ -252,6 +259,7 @@ module _ {g : Signs} (grammar : Grammar g) (choices : Choices g) (follow : Follo
       same_mark : (m n : g.Mark) (r r' : List g.Word) → fault_in g s (Twice m) r ≡ fault (Twice n) r' → m ≡ n
       same_mark m n r r' e = cc
 
+  -- words in which something counts twice are no text of the rule
   pub clash_spells_none : (ws : List g.Word) (x : g.Val s) (m : g.Mark) → Clashes grammar rule ws m →
       Spells grammar rule ws x → ⊥
   clash_spells_none ws x m k b = twice_spells_none ws k.rest x m (read_clash ws m k) b
@@ -302,6 +310,7 @@ module _ {g : Signs} (grammar : Grammar g) (choices : Choices g) (follow : Follo
           (ap (λ l. words l) (same_others (word w) t more (d ++ marked n ∷ behind) e)
           ∙ words_append d (marked n ∷ behind)) e'
 
+  -- a reading that ends at a mark that clashes has found the first thing that counts twice
   pub twice : (ws rest : List g.Word) (m : g.Mark) →
       Reads grammar choices s (only rule) [] ws (fault (Twice m) rest) → Clashes grammar rule ws m
   twice ws rest m a =

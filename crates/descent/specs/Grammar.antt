@@ -52,6 +52,7 @@ pub data Is {g : Signs} (grammar : Grammar g) : (s : g.Sort) → Prod g s → Li
 abbrev pub only : {g : Signs} {s : g.Sort} → g.Rule s → Prod g s
 only rule = call rule (λ x. give x)
 
+-- these items are a sentence of the rule, and this is its value; clashes of marks aside
 abbrev pub Says : {g : Signs} → Grammar g → {s : g.Sort} → g.Rule s → List (Item g) → g.Val s → Type 0
 Says grammar {s} rule ts x = Is grammar s (only rule) ts x
 

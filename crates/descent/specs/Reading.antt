@@ -16,14 +16,17 @@ pub data Choice (g : Signs) (s : g.Sort) : Type 0 where
 pub record Choices (g : Signs) : Type 0 where
   pub pick : {s : g.Sort} → g.Rule s → Option g.Word → Option g.Word → Choice g s
 
+-- the next word, or none at the end
 abbrev pub head : {A : Type 0} → List A → Option A
 head [] = None
 head (a ∷ as') = Some a
 
+-- the word behind the next one, or none where at most one is left
 abbrev pub second : {A : Type 0} → List A → Option A
 second [] = None
 second (a ∷ as') = head as'
 
+-- what the reader chooses for a rule before these words, of which it sees the first two
 abbrev pub choose : {g : Signs} → Choices g → {s : g.Sort} → g.Rule s → List g.Word → Choice g s
 choose choices rule ws = choices.pick rule (head ws) (second ws)
 

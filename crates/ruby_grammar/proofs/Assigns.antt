@@ -338,6 +338,7 @@ chosen_expression here w b h k =
     and_no true = refl
     and_no false = refl
 
+-- an expression has no `=`, so as a statement it is chosen, and never taken for an assignment
 pub evaluating_chosen : EvaluatingChosen
 evaluating_chosen here ts x rest a h =
     let b = starts ruby_grammar ruby_firsts (λ t. starts_law) starts_expression a (refl, λ w k. k) in

@@ -100,6 +100,7 @@ begins_ivar here w h =
 
 -- ---- what is barred
 
+-- of a simple statement's choices only that at `@x =` can be barred
 pub bar_of : (b c d f : Bool) (here : Around) →
     (if b then take (s.returning here) else
     (if c then take (s.raising here) else
@@ -123,6 +124,7 @@ bar_simple here w b h =
     here h)).0 in
     (or_second (is_variable w) (is_ivar w) i, begins_ivar here w i)
 
+-- the law `bars`: what is barred at its second word begins with a word that begins some statement, as `@x`
 pub bars : {t : Sort} (rule : Rule t) (w : Word) (b : Option Word) → pick rule (Some w) b ≡ barred →
     (looks rule (Some w) ≡ true) × BeginsWith ruby_grammar rule w
 bars (simple_statement here) w b h = bar_simple here w b h
@@ -188,6 +190,7 @@ settled here a b =
     (settled_if (next_is is_variable a && next_is is_assign b) _ _ tt
     (settled_if (next_is is_ivar a && next_is is_assign b) _ _ (set_settled here.sets here) tt)))
 
+-- the law `one_word_stops`: where two words are looked at, something is chosen or barred
 pub one_word_stops : {t : Sort} (rule : Rule t) (w : Word) (b : Option Word) → looks rule (Some w) ≡ true →
     (pick rule (Some w) b ≡ too_deep → ⊥) × (pick rule (Some w) b ≡ nothing → ⊥)
 one_word_stops (simple_statement here) w b h =
@@ -280,6 +283,7 @@ opened_marked : (how : PathOpening) (names : List Name) (ws : List Word) →
 opened_marked how names [] = inl refl
 opened_marked how names (w ∷ ws) = opened_ready how names w ws (is_path w) refl
 
+-- the law `marked_rule`: a path's end is a mark alone, chosen unless `::` goes on with the path
 pub marked_rule : {t : Sort} (rule : Rule t) (p : Prod ruby t) (m : Mark) (ts : List (Item ruby)) (x : Val t) →
     Among p (forms rule) → begins_plain rule ≡ false → Is ruby_grammar t p (marked m ∷ ts) x →
     (ts ≡ []) × ((ws : List Word) → (choose ruby_choices rule ws ≡ take p) ⊎ CanBegin ruby_grammar rule ws)

@@ -666,6 +666,7 @@ picked_forms evaluates _ (text_parts here double parts) = (
       )),
 )
 
+-- the law `chooses`: an alternative that says something before what may follow its rule is the one chosen
 pub chooses_rule : (evaluates : EvaluatingChosen) (t : Sort) (rule : Rule t) (p : Prod ruby t)
     (ts : List (Item ruby)) (x : Val t) (rest : List Word) → Among p (forms rule) → Is ruby_grammar t p ts x →
     fits rule (head rest) ≡ true → choose ruby_choices rule (words ts ++ rest) ≡ take p

@@ -165,6 +165,7 @@ abbrev pub Bar : {t : Sort} → Rule t → Type 0
 Bar (simple_statement here) = Unit {0}
 Bar _ = ⊥
 
+-- each choice of each rule is among its alternatives, and only a simple statement can be barred
 pub fine : {t : Sort} (rule : Rule t) (a b : Option Word) → Fine (Bar rule) (forms rule) (pick rule a b)
 fine (file levels anywhere) a b = fine_if ⊥ _ (next_is is_line a) _ _ first (later first)
 fine (definitions here ds) a b = fine_if ⊥ _ (next_is (starts_definition here.path) a) _ _ first (later first)
@@ -219,9 +220,11 @@ fine (text_parts here double parts) a b =
     (fine_deepen ⊥ _ here.levels (e.inside_from here double parts) (λ p am. later (among_before _ am)))
     (later (among_behind (e.opening here.levels (e.inside_from here double parts)) first)))
 
+-- the law `chosen`: the reader takes no production that isn't an alternative of the rule
 pub chosen : {t : Sort} (rule : Rule t) (a b : Option Word) (p : Prod ruby t) → pick rule a b ≡ take p →
     Among p (forms rule)
 chosen rule a b p h = subst (λ c. Fine (Bar rule) (forms rule) c) h (fine rule a b)
 
+-- what is barred is a simple statement: closes the case of each other rule
 pub barred_is : {t : Sort} (rule : Rule t) (a b : Option Word) → pick rule a b ≡ barred → Bar rule
 barred_is rule a b h = subst (λ c. Fine (Bar rule) (forms rule) c) h (fine rule a b)

@@ -24,9 +24,11 @@ use Rattle.ruby_grammar.specs.Definitions as d
 use Rattle.ruby_grammar.proofs.Tools.{among_behind}
 use Rattle.ruby_grammar.proofs.Going.{a_word, an_op}
 
+-- the rule has a sentence: some items that it says, with their value
 abbrev pub End : {t : Sort} → Rule t → Type 0
 End {t} rule = (ts : List (Item ruby)) × (x : Val t) × Is ruby_grammar t (only rule) ts x
 
+-- a constant's word, for examples of sentences
 abbrev pub const_word : Word
 const_word = a_word k.Const []
 
@@ -40,6 +42,7 @@ nothing_said rule x am = ([], x, alone ruby_grammar am is_given)
 primary_end : (here : Scope) → End (primary here)
 primary_end here = (word (a_word k.Int []) ∷ [], _, alone ruby_grammar first (is_word refl is_given))
 
+-- behind a primary nothing need follow
 abbrev pub more_postfix_end : (here : Scope) (x : Expr) → End (more_postfix here x)
 more_postfix_end here x = nothing_said (more_postfix here x) x
     (later (among_behind (e.opening here.levels (e.index_from here x)) first))
@@ -60,6 +63,7 @@ unary_end here =
           (among_behind (e.opening here.levels (e.minus_from here)) first)) a.2,
     )
 
+-- behind an operand no operator need follow
 abbrev pub more_operators_end : (level : Level) (here : Scope) (x : Expr) → End (more_operators level here x)
 more_operators_end units here x = nothing_said (more_operators units here x) x first
 more_operators_end products here x = nothing_said (more_operators products here x) x (later first)
@@ -184,6 +188,7 @@ file_end levels anywhere =
     let a = nothing_said (definitions (d.body levels anywhere []) []) [] (later first) in
     (a.0 ++ [], _, alone ruby_grammar (later first) (extend ruby_grammar a.2 is_given))
 
+-- the law `ends`: each rule has a sentence, whatever stands around it, also where no level is left
 pub ends_rule : {t : Sort} (rule : Rule t) → End rule
 ends_rule (file levels anywhere) = file_end levels anywhere
 ends_rule (definitions here ds) = nothing_said (definitions here ds) ds (later first)

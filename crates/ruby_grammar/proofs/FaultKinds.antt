@@ -180,6 +180,7 @@ same_kind ws r r' kind kind' s s' k k' e =
     let same = append_cancel_right s'.used s.used r (ap (λ l. s'.used ++ l) e ∙ sym s'.whole ∙ s.whole) in
     one_kind s.used r kind kind' k (subst (λ l. KindAt s.used l kind') (sym e) (subst (λ l. KindAt l r' kind') same k'))
 
+-- words have one first fault: its place and its kind are determined by the words and their end
 pub one_fault : (ws : List Word) (end at at' : ℕ) (kind kind' : Kind) → FirstFault ws end at kind →
     FirstFault ws end at' kind' → (at ≡ at') × (kind ≡ kind')
 one_fault ws end at at' kind kind' (twice {m = m} c) (twice {m = n} c') =

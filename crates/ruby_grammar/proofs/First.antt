@@ -35,9 +35,11 @@ starts_primary w =
     is_ivar w || is_path w || is_const w
     || is_open_bracket w || is_open_brace w || is_open_paren w
 
+-- what a simple statement begins with: an expression, `return` or `raise`
 abbrev pub starts_simple : Word → Bool
 starts_simple w = starts_expression w || is_return w || is_raise w
 
+-- which words a rule's sentences begin with; of a rule that may say nothing this tells nothing
 abbrev pub first_of_rule : {t : Sort} → Rule t → Word → Bool
 first_of_rule (definition here) = starts_definition here.path
 first_of_rule (parent path at) = λ w. is_less w || is_line w
@@ -56,6 +58,7 @@ first_of_rule (postfix here) = starts_primary
 first_of_rule (primary here) = starts_primary
 first_of_rule _ = λ w. true
 
+-- whether each sentence of the rule has a word
 abbrev pub is_solid : {t : Sort} → Rule t → Bool
 is_solid (definition here) = true
 is_solid (parent path at) = true
@@ -74,6 +77,7 @@ is_solid (postfix here) = true
 is_solid (primary here) = true
 is_solid _ = false
 
+-- the first words of the rules, for the theory of what follows a call
 abbrev pub ruby_firsts : Firsts ruby
 ruby_firsts = record { first = first_of_rule; solid = is_solid }
 
@@ -290,6 +294,7 @@ all_rule (pairs here ps) h = cc
 all_rule (more_pairs here ps) h = cc
 all_rule (text_parts here double parts) h = cc
 
+-- each alternative of a solid rule begins with one of the rule's first words
 pub starts_law : {t : Sort} (rule : Rule t) (p : Prod ruby t) → Among p (forms rule) → is_solid rule ≡ true →
     Starts ruby_firsts (first_of_rule rule) p
 starts_law rule p am h = each_among (λ q. Starts ruby_firsts (first_of_rule rule) q) (all_rule rule h) am

@@ -169,6 +169,7 @@ words_fit : (bytes : List ℕ) (end : ℕ) (ts : List Token) → TokensFit bytes
 words_fit bytes end [] h = tt
 words_fit bytes end (t ∷ ts) h = (λ i. number_fits t.kind (text_of bytes t) h.0 i, words_fit bytes t.to ts h.1)
 
+-- the words of a file's tokens have no number out of range, since a cut ends in a fault before one
 pub numbers_fit : (bytes : List ℕ) (o : Outcome) → Lexes bytes o → NumbersFit (words_of bytes (tokens_in o))
 numbers_fit bytes o l =
     let h = fits l [] (drop (utf8_valid_len bytes) bytes) refl in

@@ -70,21 +70,25 @@ weaker : (t u : Word → Bool) → Imp (none_is (λ w. t w || u w)) (none_is u)
 weaker t u None h = refl
 weaker t u (Some w) h = second_false (t w) (u w) h
 
+-- where one of two tests passes, what follows from each holds
 pub either : {P : Type 0} (a b : Bool) → (a || b) ≡ true → (a ≡ true → P) → (b ≡ true → P) → P
 either true b h f k = f refl
 either false b h f k = k h
 
+-- what ends a block is `end`, `elsif` or `else`: its cases by number
 pub block_cases : (w : Word) (Q : Type 0) → (terminal w ≡ 4 → Q) → (terminal w ≡ 6 → Q) → (terminal w ≡ 7 → Q) →
     ends_block w ≡ true → Q
 block_cases w Q a b c h = either (is_end w || is_elsif w) (is_else w) h
     (λ t. either (is_end w) (is_elsif w) t (λ u. a (terminal_is 4 w u)) (λ u. b (terminal_is 6 w u)))
     (λ u. c (terminal_is 7 w u))
 
+-- what ends a statement is a Line, or ends a block: its cases by number
 pub statement_cases : (w : Word) (Q : Type 0) → (terminal w ≡ 50 → Q) → (terminal w ≡ 4 → Q) → (terminal w ≡ 6 → Q) →
     (terminal w ≡ 7 → Q) → ends_statement w ≡ true → Q
 statement_cases w Q l a b c h = either (is_line w) (ends_block w) h (λ u. l (terminal_is 50 w u))
     (block_cases w Q a b c)
 
+-- what ends a simple statement is `if`, `unless`, or ends a statement: its cases by number
 pub simple_cases : (w : Word) (Q : Type 0) → (terminal w ≡ 5 → Q) → (terminal w ≡ 8 → Q) → (terminal w ≡ 50 → Q) →
     (terminal w ≡ 4 → Q) → (terminal w ≡ 6 → Q) → (terminal w ≡ 7 → Q) → ends_simple w ≡ true → Q
 simple_cases w Q i u l a b c h = either (is_if w || is_unless w) (ends_statement w) h
@@ -122,6 +126,7 @@ pair_not : (w : Word) → (is_comma w || is_close_brace w) ≡ true → goes_on_
 pair_not w h = either (is_comma w) (is_close_brace w) h (λ u. rw (terminal_is 88 w u) refl)
     (λ u. rw (terminal_is 96 w u) refl)
 
+-- two tests of which no word passes both: a word that passes the one fails the other, which is of one number
 pub unless_terminal : (n : ℕ) (q t : Word → Bool) (w : Word) → (t w ≡ true → terminal w ≡ n) →
     (terminal w ≡ n → q w ≡ false) →
     q w ≡ true → t w ≡ false
@@ -143,6 +148,7 @@ arms_end_block w h = either (is_end w || is_else w) (is_elsif w) h
     (λ t. either (is_end w) (is_else w) t (λ u. rw (terminal_is 4 w u) refl) (λ u. rw (terminal_is 7 w u) refl))
     (λ u. rw (terminal_is 6 w u) refl)
 
+-- no word that ends a simple statement begins an expression, so `return` stands alone before it
 pub simple_not_start : (w : Word) → ends_simple w ≡ true → starts_expression w ≡ false
 simple_not_start w h = simple_cases w (starts_expression w ≡ false) (λ e. rw e refl) (λ e. rw e refl)
     (λ e. rw e refl) (λ e. rw e refl) (λ e. rw e refl) (λ e. rw e refl) h
@@ -205,22 +211,27 @@ opened_fits : (top : Bool) (how : PathOpening) (names : List Name) (w : Word) �
 opened_fits true how names w h = rw h refl
 opened_fits false how names w h = refl
 
+-- one of two tests passes where the second does
 pub or_second : (a b : Bool) → b ≡ true → (a || b) ≡ true
 or_second true b h = refl
 or_second false b h = h
 
+-- one of two tests passes where the first does
 pub or_first : (a b : Bool) → a ≡ true → (a || b) ≡ true
 or_first a b h = rw h refl
 
 -- ---- what follows
 
+-- what follows a call, where the production then gives: what may follow the production must fit
 pub gv : (t : Sort) (fit fit' : Option Word → Bool) (y : Val t) → Imp fit fit' → Fitting ruby_grammar fit fit' (give y)
 gv t fit fit' y f = before_give ruby_grammar ruby_firsts (λ t. starts_law) fit fit' y f
 
+-- what follows a call, where the production then reads a word: each word that passes its test must fit
 pub tk : (t : Sort) (fit fit' : Option Word → Bool) (test : Word → Bool) (next : Word → Prod ruby t) →
     ((w : Word) → test w ≡ true → fit' (Some w) ≡ true) → Fitting ruby_grammar fit fit' (token test next)
 tk t fit fit' test next f = before_token ruby_grammar ruby_firsts (λ t. starts_law) fit fit' test next f
 
+-- what follows a call, where it then calls a solid rule: each first word of that rule must fit
 pub rl : (t : Sort) {v : Sort} (fit fit' : Option Word → Bool) (rule : Rule v) (next : Val v → Prod ruby t) →
     is_solid rule ≡ true → ((w : Word) → first_of_rule rule w ≡ true → fit' (Some w) ≡ true) →
     Fitting ruby_grammar fit fit' (call rule next)
@@ -236,6 +247,7 @@ on : {t : Sort} (fit fit' : Option Word → Bool) (q : Word → Bool) (rule : Ru
 on fit fit' q rule o f k = before_only ruby_grammar ruby_firsts (λ t. starts_law) fit fit' q rule
     (λ p am. each_among (λ r. Opening ruby_firsts q r) o am) f k
 
+-- what follows a call, where it then calls a rule that may say nothing: its first words and what follows must fit
 pub pr : (t : Sort) {v : Sort} (fit fit' : Option Word → Bool) (q : Word → Bool) (rule : Rule v)
     (next : Val v → Prod ruby t) → Opens q rule → ((w : Word) → q w ≡ true → fit' (Some w) ≡ true) →
     ((y : Val v) → Fitting ruby_grammar fit fit' (next y)) → Fitting ruby_grammar fit fit' (call rule next)
@@ -972,6 +984,7 @@ follows_forms (definition here) =
     )
     (member_follows (d.at_top here.path) here)
 
+-- the law `follows`: in each alternative of each rule, what comes behind a call may follow the called rule
 pub follows_rule : {t : Sort} (rule : Rule t) (p : Prod ruby t) → Among p (forms rule) →
     Follows ruby_grammar ruby_follow (fits rule) p
 follows_rule rule p am = each_among (λ q. Follows ruby_grammar ruby_follow (fits rule) q) (follows_forms rule) am

@@ -29,9 +29,11 @@ use Rattle.ruby_grammar.proofs.Tools.{Each, each_among, each_append, each_openin
 
 -- ---- some words
 
+-- a word of this kind and text at place 0, for examples of sentences
 abbrev pub a_word : TokenKind → List ℕ → Word
 a_word kind text = record { kind = kind; text = text; tight = true; at = 0 }
 
+-- an operator's word, for examples of sentences; no test looks at its text
 abbrev pub an_op : Op → Word
 an_op o = a_word (k.Op o) []
 
@@ -305,5 +307,6 @@ goes_forms (text_parts here double parts) = (
       (λ n. ((a_word k.InsideOpen [], refl), λ w t. λ y. ((a_word k.InsideClose [], refl), λ w t. λ z. tt))) ((tt, tt)),
 )
 
+-- the law `goes`: each test in an alternative passes some word, so no alternative is dead
 pub goes_rule : {t : Sort} (rule : Rule t) (p : Prod ruby t) → Among p (forms rule) → Goes p
 goes_rule rule p am = each_among (λ q. Goes q) (goes_forms rule) am

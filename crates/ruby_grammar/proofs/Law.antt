@@ -75,6 +75,7 @@ chooses : {t : Sort} (rule : Rule t) (q : Prod ruby t) (ts : List (Item ruby)) (
     choose ruby_choices rule (words ts ++ rest) ≡ take q
 chooses {t} rule q ts x rest = k.chooses_rule a.evaluating_chosen t rule q ts x rest
 
+-- the reader's choices meet each law that makes reading by descent exact for this grammar
 pub lawful : Lawful ruby_grammar ruby_choices ruby_follow
 lawful = record {
   chosen = c.chosen;

@@ -7,6 +7,7 @@ use Rattle.ruby_grammar.proofs.Paired.{among_beside}
 use Rattle.ruby_grammar.proofs.Picks.{takes, nothing_beside, depth_beside, bar_beside}
 use Rattle.ruby_grammar.proofs.Opened.{opens, unbars}
 
+-- the rules beside meet each law of a lift: what is too deep, or barred, could go on with more
 pub lifts : (m : More) → Lifts ruby_grammar ruby_choices (ruby_lift m)
 lifts m = record {
   among = among_beside m;

@@ -162,6 +162,7 @@ plain_forms (definition here) h = each_append (λ p. Plain ruby_follow p) (d.top
 ) (member_plain (d.at_top here.path) here)
 plain_forms (parameter_list levels) h = (tt, opened_plain levels d.parameters_from (λ n. tt))
 
+-- the law `plain_rule`: no sentence begins with a mark, but at the end of a path that counts
 pub plain_rule : {t : Sort} (rule : Rule t) (p : Prod ruby t) → Among p (forms rule) → begins_plain rule ≡ true →
     Plain ruby_follow p
 plain_rule rule p am h = each_among (λ q. Plain ruby_follow q) (plain_forms rule h) am
@@ -319,10 +320,12 @@ quiet_forms (parameter_list levels) h =
     (λ w0 t0. tt, opened_quiet levels d.parameters_from (λ n. λ w0 t0. (refl, λ y w1 t1 w2 t2. tt)))
 quiet_forms (more_readers path names) h = cc
 
+-- the law `quiet_rule`: in statements and expressions no sentence has a mark
 pub quiet_rule : {t : Sort} (rule : Rule t) (p : Prod ruby t) → Among p (forms rule) → is_quiet rule ≡ true →
     Quiet ruby_follow p
 quiet_rule rule p am h = each_among (λ q. Quiet ruby_follow q) (quiet_forms rule h) am
 
+-- the law `looks_quiet`: only a simple statement looks at two words, and it has no marks
 pub looks_quiet : {t : Sort} (rule : Rule t) (a : Option Word) → looks rule a ≡ true → (is_quiet rule ≡ true)
     × (begins_plain rule ≡ true)
 looks_quiet (simple_statement here) a h = (refl, refl)

@@ -18,6 +18,7 @@ simple_one : (here : Around) (w : Word) (b c : Option Word) → (is_variable w �
     pick (simple_statement here) (Some w) b ≡ pick (simple_statement here) (Some w) c
 simple_one here w b c h = rw (h.0, h.1) refl
 
+-- the law `one_word`: the second word makes no difference, but in a simple statement behind a variable
 pub one_word : {t : Sort} (rule : Rule t) (a b c : Option Word) → looks rule a ≡ false → pick rule a b ≡ pick rule a c
 one_word (simple_statement here) None b c h = refl
 one_word (simple_statement here) (Some w) b c h = simple_one here w b c (or_false (is_variable w) (is_ivar w) h)

@@ -229,6 +229,7 @@ opened (text_parts here double parts) a b =
     (op_deepen r a is_inside_open here.levels (e.inside_from here double parts) _
     (begins r is_inside_open _ (later first)) tt)
 
+-- the law `opens`: a word refused as too deep begins a sentence where one level more is left
 pub opens : (m : More) {t : Sort} (rule : Rule t) (a b : Option Word) → pick rule a b ≡ too_deep →
     keeps_deep m ≡ false → (w : Word) × (a ≡ Some w) × BeginsWith ruby_grammar (beside m rule) w
 opens a_level rule a b h k = subst (λ c. Opened (beside a_level rule) a c) h (opened rule a b)
@@ -304,6 +305,7 @@ unbarred (more_pairs here ps) a b h = absurd (barred_is (more_pairs here ps) a b
 unbarred (pair here) a b h = absurd (barred_is (pair here) a b h)
 unbarred (text_parts here double parts) a b h = absurd (barred_is (text_parts here double parts) a b h)
 
+-- the law `unbars`: `@x =`, where it is barred, begins a statement where it may stand in any method
 pub unbars : (m : More) {t : Sort} (rule : Rule t) (a b : Option Word) → pick rule a b ≡ barred →
     keeps_barred m ≡ false →
     (w v : Word) × (a ≡ Some w) × (b ≡ Some v) × (more : List (Item ruby)) × (x : Val t)

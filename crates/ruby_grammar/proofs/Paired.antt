@@ -32,6 +32,7 @@ pub data Within (m : More) (t : Sort) : List (Prod ruby t) → List (Prod ruby t
   both : {p q : Prod ruby t} {ps qs : List (Prod ruby t)} → Same m p q → Within m t ps qs → Within m t (p ∷ ps) (q ∷ qs)
   extra : {q : Prod ruby t} {ps qs : List (Prod ruby t)} → Within m t ps qs → Within m t ps (q ∷ qs)
 
+-- among these alternatives of the rule beside stands the same production
 abbrev pub Pair : (m : More) (t : Sort) → Prod ruby t → List (Prod ruby t) → Type 0
 Pair m t p qs = (q : Prod ruby t) × Among q qs × Same m p q
 
@@ -206,6 +207,7 @@ within m (text_parts here double parts) =
     (append (opening m here.levels (e.inside_from here double parts) (e.inside_from (scope_with m here) double parts)
     (λ n. up_token λ w t. up_call λ y. up_token λ v u. up_call λ z. up_give)) (both up_give none))
 
+-- the law `among`: the rule beside has each alternative of the rule
 pub among_beside : (m : More) {t : Sort} (rule : Rule t) (p : Prod ruby t) → Among p (forms rule) →
     Pair m t p (forms (beside m rule))
 among_beside m rule p am = within_among (within m rule) am

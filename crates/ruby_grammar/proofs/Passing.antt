@@ -23,6 +23,7 @@ use Rattle.ruby_grammar.proofs.Tools.{terminal_is, or_true, and_true}
 abbrev pub Starts : Word → Type 0
 Starts w = (terminal w ≡ 0) ⊎ (terminal w ≡ 52)
 
+-- the two words that a simple statement is chosen by: a variable or an instance variable comes first
 pub starts_by : (w : Word) → (is_variable w || is_ivar w) ≡ true → Starts w
 starts_by w h = elim (or_true (is_variable w) (is_ivar w) h) [
   | inl v ↦ inl (terminal_is 0 w (and_true (is_name w) _ v).0)
@@ -115,6 +116,7 @@ variable_moves true d here w ws p v i h c = subst (λ q. Move q (w ∷ ws)) (tak
     (moves_token ruby_grammar ruby_choices _ _ w ws (v refl))
 variable_moves false d here w ws p v i h c = ivar_moves d here w ws p i h c
 
+-- before such a word a statement is no `return` or `raise`, so only the `=` behind it makes a difference
 pub no_keyword : (here : Around) (w : Word) (b : Option Word) → Starts w →
     pick (simple_statement here) (Some w) b
     ≡ (if is_variable w && next_is is_assign b then take (s.setting here) else
@@ -122,6 +124,7 @@ pub no_keyword : (here : Around) (w : Word) (b : Option Word) → Starts w →
 no_keyword here w b (inl h) = rw h refl
 no_keyword here w b (inr h) = rw h refl
 
+-- the law `passes`: a simple statement that begins with a variable passes that word, whatever is chosen
 pub simple_passes : (here : Around) (w : Word) (ws : List Word) (p : Prod ruby a_statement) →
     (is_variable w || is_ivar w) ≡ true → choose ruby_choices (simple_statement here) (w ∷ ws) ≡ take p →
     Move p (w ∷ ws)

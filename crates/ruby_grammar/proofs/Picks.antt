@@ -280,18 +280,22 @@ barred_choice m c d kin_nothing e k = cc
 barred_choice m c d (kin_deep h) e k = cc
 barred_choice m c d (kin_barred h) e k = h k
 
+-- the law `takes`: where a rule chooses an alternative, the rule beside chooses the same one
 pub takes : (m : More) {t : Sort} (rule : Rule t) (a b : Option Word) (p : Prod ruby t) → pick rule a b ≡ take p →
     (q : Prod ruby t) × (pick (beside m rule) a b ≡ take q) × Same m p q
 takes m rule a b p h = taken m (pick rule a b) (pick (beside m rule) a b) p (kin m rule a b) h
 
+-- the law `nothing_beside`: a word with which nothing begins begins nothing of the rule beside either
 pub nothing_beside : (m : More) {t : Sort} (rule : Rule t) (a b : Option Word) → pick rule a b ≡ nothing →
     pick (beside m rule) a b ≡ nothing
 nothing_beside m rule a b h = no_choice m (pick rule a b) (pick (beside m rule) a b) (kin m rule a b) h
 
+-- the law `depth_beside`: settings alone leave too deep what is too deep
 pub depth_beside : (m : More) {t : Sort} (rule : Rule t) (a b : Option Word) → pick rule a b ≡ too_deep →
     keeps_deep m ≡ true → pick (beside m rule) a b ≡ too_deep
 depth_beside m rule a b h k = deep_choice m (pick rule a b) (pick (beside m rule) a b) (kin m rule a b) h k
 
+-- the law `bar_beside`: a level more alone leaves barred what is barred
 pub bar_beside : (m : More) {t : Sort} (rule : Rule t) (a b : Option Word) → pick rule a b ≡ barred →
     keeps_barred m ≡ true → pick (beside m rule) a b ≡ barred
 bar_beside m rule a b h k = barred_choice m (pick rule a b) (pick (beside m rule) a b) (kin m rule a b) h k

@@ -35,11 +35,13 @@ no_both : (bytes : List ℕ) (ts us : List Token) (kind : LexKind) (at : ℕ) �
     Lexes bytes (fault us kind at) → ⊥
 no_both bytes ts us kind at l l' = done_or_fault ts us kind at (one_outcome bytes (done ts) (fault us kind at) l l')
 
+-- bytes that are a text of the profile have one tree
 pub one_text : (bytes : List ℕ) (x y : FileTree) → IsText bytes x → IsText bytes y → x ≡ y
 one_text bytes x y a b = one_tree (words_of bytes b.tokens) x y
     (subst (λ ts. IsFile (words_of bytes ts) x) (tokens_are bytes a.tokens b.tokens a.lexed b.lexed) a.spelled)
     b.spelled
 
+-- bytes that are a text of the profile have no first fault
 pub no_fault_in_a_text : (bytes : List ℕ) (tree : FileTree) (at : ℕ) (why : Why) → IsText bytes tree →
     NoText bytes at why → ⊥
 no_fault_in_a_text bytes tree at why a (no_file {tokens = ts} {kind = kind} l f) =
@@ -53,6 +55,7 @@ no_fault_in_a_text bytes tree at why a (no_token {tokens = ts} {lex_kind = k} {l
 before_and_behind : (a b : ℕ) → a < b → b ≤ a → ⊥
 before_and_behind a b h k = omega (arith, h, k)
 
+-- bytes that are no text have one first fault, at one place and for one reason
 pub one_reason : (bytes : List ℕ) (at at' : ℕ) (why why' : Why) → NoText bytes at why → NoText bytes at' why' →
     (at ≡ at') × (why ≡ why')
 one_reason bytes at at' why why' (no_file {tokens = ts} {kind = kind} l f)
@@ -99,10 +102,12 @@ one_reason bytes at at' why why' (no_token {tokens = ts} {lex_kind = k} {lex_at 
 abbrev Read : Type 0
 Read = r.Outcome ruby a_tree
 
+-- where all bytes are tokens and a reader reads them to the end, they are a text with its tree
 pub text_read : (bytes : List ℕ) (ts : List Token) (tree : FileTree) (ms : List Mark) → Lexes bytes (done ts) →
     ReadsFile (words_of bytes ts) (r.done tree ms []) → IsText bytes tree
 text_read bytes ts tree ms l a = record { tokens = ts; lexed = l; spelled = found (words_of bytes ts) tree ms a }
 
+-- where all bytes are tokens, what a reader stops at is the file's first fault
 pub fault_read : (bytes : List ℕ) (ts : List Token) (o : Read) → Lexes bytes (done ts) →
     ReadsFile (words_of bytes ts) o → IsFault o →
     NoText bytes (fault_place (length bytes) o) (of_grammar (fault_kind o))
@@ -110,6 +115,7 @@ fault_read bytes ts o l a f = no_file l (first_fault (words_of bytes ts) (length
 
 -- ---- and a reader of the tokens before a fault of the lexer
 
+-- a reader's fault that stands before the lexer's is the file's first fault
 pub fault_before : (bytes : List ℕ) (ts : List Token) (kind : LexKind) (at : ℕ) (o : Read) →
     Lexes bytes (fault ts kind at) → ReadsFile (words_of bytes ts) o → IsFault o → fault_place at o < at →
     NoText bytes (fault_place at o) (of_grammar (fault_kind o))
@@ -123,6 +129,7 @@ none_before ws at n kind (r.done tree ms (w ∷ rest)) a h f =
 none_before ws at n kind (r.fault why rest) a h f =
     subst (λ m. at ≤ m) (sym (exact_fault ws at n kind (r.fault why rest) a tt f).0) (h tt)
 
+-- where no fault of a reader stands before the lexer's, the lexer's is the file's first fault
 pub fault_of_lexer : (bytes : List ℕ) (ts : List Token) (kind : LexKind) (at : ℕ) (o : Read) →
     Lexes bytes (fault ts kind at) → ReadsFile (words_of bytes ts) o → (IsFault o → at ≤ fault_place at o) →
     NoText bytes at lexical

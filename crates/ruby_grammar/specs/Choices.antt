@@ -46,21 +46,27 @@ starts_expression w =
     is_ivar w || is_path w || is_const w
     || is_open_bracket w || is_open_brace w || is_open_paren w || is_not w || is_minus w
 
+-- what an expression begins with, `return`, `raise`, `if` or `unless`
 abbrev pub starts_statement : Word → Bool
 starts_statement w = starts_expression w || is_return w || is_raise w || is_if w || is_unless w
 
+-- a label, or what an expression begins with, which then has `=>` behind it
 abbrev pub starts_pair : Word → Bool
 starts_pair w = is_label w || starts_expression w
 
+-- a constant that is assigned, `module` or `class`: what may stand at the top of a file
 abbrev pub starts_top : Word → Bool
 starts_top w = is_const w || is_module w || is_class w
 
+-- `include`, `attr_reader` or `def`: what stands only inside another definition
 abbrev pub starts_member : Word → Bool
 starts_member w = is_include w || is_attr_reader w || is_def w
 
+-- what a definition begins with in the body of this path, at the top or inside another
 abbrev pub starts_definition : Path → Word → Bool
 starts_definition path w = starts_top w || (not (d.at_top path) && starts_member w)
 
+-- a member by its first word, unless the body is the top of the file, where the flag is true
 abbrev pub pick_member : Bool → Body → Option Word → Choice ruby a_def
 pick_member true here a = nothing
 pick_member false here a =
@@ -69,6 +75,7 @@ pick_member false here a =
     else (if next_is is_def a then deepen here.levels (d.method_from here)
     else nothing))
 
+-- a definition by its first word: `X = ..`, `module`, `class`, or a member
 abbrev pub pick_definition : Body → Option Word → Choice ruby a_def
 pick_definition here a =
     if next_is is_const a then take (d.assign_from here)
@@ -76,16 +83,19 @@ pick_definition here a =
     else (if next_is is_class a then deepen here.levels (d.class_from here)
     else pick_member (d.at_top here.path) here a))
 
+-- `::` goes on with a path, where the flag lets it; any other word stands behind its end
 abbrev pub pick_path_rest : Bool → Option Mark → List Name → Option Word → Choice ruby some_names
 pick_path_rest true ending names a = if next_is is_path a then take (e.path_more ending names) else take
     (e.path_end ending names)
 pick_path_rest false ending names a = take (e.path_end ending names)
 
+-- the same of a path that is opened: inside another definition, `::` never goes on
 abbrev pub pick_opened_path : Bool → PathOpening → List Name → Option Word → Choice ruby some_names
 pick_opened_path true how names a = if next_is is_path a then take (d.opened_path_more how names) else take
     (d.opened_path_end how names)
 pick_opened_path false how names a = take (d.opened_path_end how names)
 
+-- a statement by its first word: `if`, `unless`, or a simple one with perhaps a condition behind it
 abbrev pub pick_statement : Around → Option Word → Choice ruby a_statement
 pick_statement here a =
     if next_is is_if a then deepen here.levels (s.if_from here)
@@ -97,6 +107,7 @@ abbrev pub pick_set_ivar : Bool → Around → Choice ruby a_statement
 pick_set_ivar true here = take (s.setting_ivar here)
 pick_set_ivar false here = barred
 
+-- `return`, `raise`, `x =`, `@x =` or an expression; `x == 1` is an expression by its second word
 abbrev pub pick_simple_statement : Around → Option Word → Option Word → Choice ruby a_statement
 pick_simple_statement here a b =
     if next_is is_return a then take (s.returning here)
@@ -105,43 +116,51 @@ pick_simple_statement here a b =
     else (if next_is is_ivar a && next_is is_assign b then pick_set_ivar here.sets here
     else take (s.evaluating here))))
 
+-- behind a simple statement: `if`, `unless`, or any other word, which stands behind the statement
 abbrev pub pick_condition_behind : ℕ → Known → Option Word → Choice ruby a_statement
 pick_condition_behind levels t a =
     if next_is is_if a then take (s.if_behind levels t)
     else (if next_is is_unless a then take (s.unless_behind levels t)
     else take (give t))
 
+-- what may stand behind a condition: `then` or a Line, and nothing else
 abbrev pub pick_then : Option Word → Choice ruby no_value
 pick_then a =
     if next_is is_then a then take (token is_then λ _. only perhaps_line)
     else (if next_is is_line a then take (token is_line λ _. give tt)
     else nothing)
 
+-- `elsif`, where the flag lets it: not behind an `unless`
 abbrev pub pick_elsif : Bool → ℕ → Bool → List (Expr × List Stmt) → Block → Option Word → Choice ruby a_statement
 pick_elsif true levels sets arms b a = if next_is is_elsif a then take (s.elsif_more levels sets arms b) else nothing
 pick_elsif false levels sets arms b a = nothing
 
+-- `else` or `elsif`, where the last statement has its Line, which the first flag says
 abbrev pub pick_branch : Bool → ℕ → Bool → Bool → List (Expr × List Stmt) → Block → Option Word →
     Choice ruby a_statement
 pick_branch true levels sets may_elsif arms b a =
     if next_is is_else a then take (s.else_more levels sets arms b) else pick_elsif may_elsif levels sets arms b a
 pick_branch false levels sets may_elsif arms b a = nothing
 
+-- behind an arm's statements: `end`, or a branch more
 abbrev pub pick_arms_rest : ℕ → Bool → Bool → List (Expr × List Stmt) → Block → Option Word → Choice ruby a_statement
 pick_arms_rest levels sets may_elsif arms b a = if next_is is_end a then take (s.arms_end arms b) else pick_branch
     b.closed levels sets may_elsif arms b a
 
+-- `!`, `-`, or an operand without such an operator
 abbrev pub pick_unary : Scope → Option Word → Choice ruby an_expression
 pick_unary here a =
     if next_is is_not a then deepen here.levels (e.not_from here)
     else (if next_is is_minus a then deepen here.levels (e.minus_from here)
     else take (only (postfix here)))
 
+-- an operator of the level goes on; any other word stands behind the expression
 abbrev pub pick_more_operators : Level → Scope → Expr → Option Word → Choice ruby an_expression
 pick_more_operators units here x a = take (give x)
 pick_more_operators level here x a = if next_is (is_operator level) a then take (e.operator_more level here x) else
     take (give x)
 
+-- `.` or a `[` with nothing white before it goes on; any other word stands behind the expression
 abbrev pub pick_more_postfix : Scope → Expr → Option Word → Choice ruby an_expression
 pick_more_postfix here x a =
     if next_is is_dot a then take (e.method_call here x)
@@ -157,6 +176,7 @@ pick_other_primary here a =
     else (if next_is is_open_paren a then deepen here.levels (e.group_from here)
     else nothing)))
 
+-- a primary by its first word; nothing begins with a word that begins none
 abbrev pub pick_primary : Scope → Option Word → Choice ruby an_expression
 pick_primary here a =
     if next_is is_int a then take (token is_int λ w. give (expr.Int (number_of w.text)))
@@ -170,12 +190,14 @@ pick_primary here a =
     else (if next_is is_ivar a then take (token is_ivar λ w. give (expr.Ivar (behind_sign w.text)))
     else pick_other_primary here a))))))))
 
+-- a piece of text or `#{` goes on; any other word is to be the closing quote
 abbrev pub pick_text_parts : Scope → Bool → List Part → Option Word → Choice ruby some_parts
 pick_text_parts here double parts a =
     if next_is is_text_piece a then take (e.piece_from here double parts)
     else (if next_is is_inside_open a then deepen here.levels (e.inside_from here double parts)
     else take (give parts))
 
+-- what the reader chooses for each rule before the next word, or the next two
 abbrev pub pick : {t : Sort} → Rule t → Option Word → Option Word → Choice ruby t
 pick (file levels anywhere) a b = if next_is is_line a then take (token is_line λ _. d.file_from levels anywhere)
     else take (d.file_from levels anywhere)
@@ -231,5 +253,6 @@ pick (more_pairs here ps) a b = if next_is is_comma a then take (token is_comma 
 pick (pair here) a b = if next_is is_label a then take (e.label_pair here) else take (e.arrow_pair here)
 pick (text_parts here double parts) a b = pick_text_parts here double parts a
 
+-- the choices of the profile's reader, for the theory of reading by descent
 abbrev pub ruby_choices : Choices ruby
 ruby_choices = record { pick = pick }

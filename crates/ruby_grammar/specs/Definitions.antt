@@ -18,9 +18,11 @@ use Rattle.ruby_grammar.specs.Values.{behind_sign}
 use Rattle.ruby_grammar.specs.Expressions.{opening}
 use Rattle.ruby_grammar.specs.Statements.{scope, around}
 
+-- the levels left, whether `@x =` may stand in any method, and the path, as what stands around a definition
 abbrev pub body : ℕ → Bool → Path → Body
 body levels anywhere path = record { levels = levels; anywhere = anywhere; path = path }
 
+-- the mark of what is done to this path by the name at this place
 abbrev pub counts : Path → Act → ℕ → Mark
 counts path act at = record { path = path; act = act; at = at }
 
@@ -33,6 +35,7 @@ at_top (n ∷ ns) = false
 abbrev pub file_from : ℕ → Bool → Prod ruby a_tree
 file_from levels anywhere = call (definitions (body levels anywhere []) []) λ ds. give (record { defs = ds })
 
+-- file = [ L ] { top L }: with a Line first, or without
 abbrev pub file_forms : ℕ → Bool → List (Prod ruby a_tree)
 file_forms levels anywhere = (token is_line λ _. file_from levels anywhere) ∷ file_from levels anywhere ∷ []
 
@@ -40,9 +43,11 @@ file_forms levels anywhere = (token is_line λ _. file_from levels anywhere) ∷
 abbrev pub definition_then : Body → List Def → Prod ruby some_defs
 definition_then here ds = call (definition here) λ d. only (more_definitions here (ds ++ d ∷ []))
 
+-- { item L }: one definition more, or no more
 abbrev pub definitions_forms : Body → List Def → List (Prod ruby some_defs)
 definitions_forms here ds = definition_then here ds ∷ give ds ∷ []
 
+-- behind a definition: a Line and perhaps more definitions, or the end of the body
 abbrev pub more_definitions_forms : Body → List Def → List (Prod ruby some_defs)
 more_definitions_forms here ds = (token is_line λ _. only (definitions here ds)) ∷ give ds ∷ []
 
@@ -51,12 +56,15 @@ more_definitions_forms here ds = (token is_line λ _. only (definitions here ds)
 abbrev pub opens : PathOpening → List Name → Mark
 opens how names = counts (how.outer ++ names) how.act how.at
 
+-- "::" CONST, and perhaps more of the path
 abbrev pub opened_path_more : PathOpening → List Name → Prod ruby some_names
 opened_path_more how names = token is_path λ _. token is_const λ w. only (opened_path true how (names ++ w.text ∷ []))
 
+-- the path's end, where it counts as opened
 abbrev pub opened_path_end : PathOpening → List Name → Prod ruby some_names
 opened_path_end how names = mark (opens how names) (give names)
 
+-- the rest of a path that is opened; where the flag is false its first name is all
 abbrev pub opened_path_forms : Bool → PathOpening → List Name → List (Prod ruby some_names)
 opened_path_forms true how names = opened_path_more how names ∷ opened_path_end how names ∷ []
 opened_path_forms false how names = opened_path_end how names ∷ []
@@ -81,6 +89,7 @@ class_from here levels =
     call (definitions (body levels here.anywhere (here.path ++ path)) []) λ ds. token is_end λ _.
     give (def.Class path p ds)
 
+-- a Line right behind the class's path: the class gives no parent
 abbrev pub no_parent : Prod ruby a_parent
 no_parent = token is_line λ _. give None
 
@@ -89,6 +98,7 @@ abbrev pub some_parent : Path → ℕ → Prod ruby a_parent
 some_parent path at = token is_less λ _.
     call (constant (Some (counts path gives_parent at))) λ c. token is_line λ _. give (Some c)
 
+-- [ "<" cref ] L
 abbrev pub parent_forms : Path → ℕ → List (Prod ruby a_parent)
 parent_forms path at = some_parent path at ∷ no_parent ∷ []
 
@@ -114,22 +124,28 @@ abbrev pub method_name : Path → Bool → Prod ruby a_heading
 method_name path single = token is_name λ w.
     mark (counts path (defines single w.text) w.at) (give (record { single = single; name = w.text }))
 
+-- "self" "." NAME: a singleton method's name
 abbrev pub singleton_heading : Path → Prod ruby a_heading
 singleton_heading path = token is_self λ _. token is_dot λ _. method_name path true
 
+-- [ "self" "." ] NAME
 abbrev pub heading_forms : Path → List (Prod ruby a_heading)
 heading_forms path = singleton_heading path ∷ method_name path false ∷ []
 
+-- a Line right behind the method's name
 abbrev pub no_parameters : Prod ruby some_names
 no_parameters = token is_line λ _. give []
 
+-- "(" [ NAME { "," NAME } ] ")" L, which stands only where a level is left
 abbrev pub parameters_from : ℕ → Prod ruby some_names
 parameters_from levels = token is_open_paren λ _.
     call parameters λ names. token is_close_paren λ _. token is_line λ _. give names
 
+-- [ "(" [ NAME { "," NAME } ] ")" ] L
 abbrev pub parameter_list_forms : ℕ → List (Prod ruby some_names)
 parameter_list_forms levels = no_parameters ∷ opening levels parameters_from
 
+-- [ NAME { "," NAME } ], where a name has no suffix
 abbrev pub parameters_forms : List (Prod ruby some_names)
 parameters_forms = (token is_variable λ w. only (more_parameters (w.text ∷ []))) ∷ give [] ∷ []
 
@@ -138,6 +154,7 @@ abbrev pub parameter_more : List Name → Prod ruby some_names
 parameter_more names = token is_comma λ _. token (is_new_parameter names) λ w.
     only (more_parameters (names ++ w.text ∷ []))
 
+-- { "," NAME }, behind these names
 abbrev pub more_parameters_forms : List Name → List (Prod ruby some_names)
 more_parameters_forms names = parameter_more names ∷ give names ∷ []
 
@@ -149,15 +166,18 @@ include_from = token is_include λ _. call (constant None) λ c. give (def.Inclu
 abbrev pub reader : Path → Word → Mark
 reader path w = counts path (defines false (behind_sign w.text)) w.at
 
+-- the first reader's symbol counts, and then the others
 abbrev pub readers_from : Body → Prod ruby a_def
 readers_from here = token is_attr_reader λ _. token is_sym λ w.
     mark (reader here.path w) (call (more_readers here.path (behind_sign w.text ∷ [])) λ names.
     give (def.Readers names))
 
+-- "," SYM, which counts, and perhaps more readers
 abbrev pub reader_more : Path → List Name → Prod ruby some_names
 reader_more path names = token is_comma λ _. token is_sym λ w.
     mark (reader path w) (only (more_readers path (names ++ behind_sign w.text ∷ [])))
 
+-- { "," SYM }, behind these names
 abbrev pub more_readers_forms : Path → List Name → List (Prod ruby some_names)
 more_readers_forms path names = reader_more path names ∷ give names ∷ []
 
@@ -165,9 +185,11 @@ more_readers_forms path names = reader_more path names ∷ give names ∷ []
 abbrev pub top_forms : Body → List (Prod ruby a_def)
 top_forms here = assign_from here ∷ (opening here.levels (module_from here) ++ opening here.levels (class_from here))
 
+-- what stands only inside another definition; nothing at the top, where the flag is true
 abbrev pub member_forms : Bool → Body → List (Prod ruby a_def)
 member_forms true here = []
 member_forms false here = include_from ∷ readers_from here ∷ opening here.levels (method_from here)
 
+-- item, in the body of a path: what may stand at the top, and the members inside another definition
 abbrev pub definition_forms : Body → List (Prod ruby a_def)
 definition_forms here = top_forms here ++ member_forms (at_top here.path) here

@@ -26,12 +26,15 @@ ends_or test (Some w) = test w
 abbrev pub none_is : (Word → Bool) → Option Word → Bool
 none_is test a = not (next_is test a)
 
+-- what ends the statements of a method or of an arm: `end`, `elsif` or `else`
 abbrev pub ends_block : Word → Bool
 ends_block w = is_end w || is_elsif w || is_else w
 
+-- what ends a statement: a Line, or what ends its block
 abbrev pub ends_statement : Word → Bool
 ends_statement w = is_line w || ends_block w
 
+-- what ends a simple statement: a condition behind it, or what ends a statement
 abbrev pub ends_simple : Word → Bool
 ends_simple w = is_if w || is_unless w || ends_statement w
 
@@ -39,27 +42,35 @@ ends_simple w = is_if w || is_unless w || ends_statement w
 abbrev pub goes_on_primary : Word → Bool
 goes_on_primary w = is_tight_paren w || is_path w
 
+-- `.`, a `[` or `(` with nothing white before it, or `::`
 abbrev pub goes_on_postfix : Word → Bool
 goes_on_postfix w = is_dot w || is_tight_bracket w || goes_on_primary w
 
+-- `*`, `/`, `%`, or what goes on with an operand of theirs
 abbrev pub goes_on_products : Word → Bool
 goes_on_products w = is_operator products w || goes_on_postfix w
 
+-- `+`, `-`, or what goes on with an operand of theirs
 abbrev pub goes_on_sums : Word → Bool
 goes_on_sums w = is_operator sums w || goes_on_products w
 
+-- `<`, `<=`, `>`, `>=`, or what goes on with an operand of theirs
 abbrev pub goes_on_comparisons : Word → Bool
 goes_on_comparisons w = is_operator comparisons w || goes_on_sums w
 
+-- `==`, `!=`, or what goes on with an operand of theirs
 abbrev pub goes_on_equalities : Word → Bool
 goes_on_equalities w = is_operator equalities w || goes_on_comparisons w
 
+-- `&&`, or what goes on with an operand of it
 abbrev pub goes_on_conjunctions : Word → Bool
 goes_on_conjunctions w = is_operator conjunctions w || goes_on_equalities w
 
+-- `||`, or what goes on with an operand of it
 abbrev pub goes_on_disjunctions : Word → Bool
 goes_on_disjunctions w = is_operator disjunctions w || goes_on_conjunctions w
 
+-- what goes on with an expression of operators of this level and tighter ones
 abbrev pub goes_on : Level → Word → Bool
 goes_on units = goes_on_postfix
 goes_on products = goes_on_products
@@ -69,12 +80,15 @@ goes_on equalities = goes_on_equalities
 goes_on conjunctions = goes_on_conjunctions
 goes_on disjunctions = goes_on_disjunctions
 
+-- what goes on with an expression: the `?` of a choice, or what goes on with its operators
 abbrev pub goes_on_expression : Word → Bool
 goes_on_expression w = is_ask w || goes_on disjunctions w
 
+-- what stands behind arguments, or behind the expressions of an array
 abbrev pub ends_members : Word → Bool
 ends_members w = is_close_paren w || is_close_bracket w
 
+-- whether this word, or the end, may stand behind what the rule says; no word that would go on with it
 abbrev pub fits : {s : Sort} → Rule s → Option Word → Bool
 fits (file levels anywhere) = ends_or (λ w. false)
 fits (definitions here ds) = ends_or is_end
@@ -145,5 +159,6 @@ is_quiet (heading path) = false
 is_quiet (more_readers path names) = false
 is_quiet _ = true
 
+-- what may follow the rules of the profile, for the laws of reading by descent
 abbrev pub ruby_follow : Follow ruby
 ruby_follow = record { fits = fits; looks = looks; plain = begins_plain; quiet = is_quiet }

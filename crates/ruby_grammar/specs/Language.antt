@@ -23,6 +23,7 @@ use Rattle.ruby_grammar.specs.Definitions.{parent_forms, heading_forms, paramete
 use Rattle.ruby_grammar.specs.Definitions.{more_parameters_forms, more_readers_forms, opened_path_forms}
 use Rattle.ruby_types.specs.declared.tree.FileTree.{FileTree}
 
+-- the alternatives of each rule, each defined beside the rule that it writes out
 abbrev pub forms : {s : Sort} → Rule s → List (Prod ruby s)
 forms (file levels anywhere) = file_forms levels anywhere
 forms (definitions here ds) = definitions_forms here ds
@@ -63,6 +64,7 @@ forms (more_pairs here ps) = more_pairs_forms here ps
 forms (pair here) = pair_forms here
 forms (text_parts here double parts) = text_parts_forms here double parts
 
+-- the grammar of the profile: the alternatives of its rules, and which definitions count twice
 abbrev pub ruby_grammar : Grammar ruby
 ruby_grammar = record { alternatives = forms; clashes = clashes_any }
 

@@ -17,12 +17,14 @@ pub record Mark : Type 0 where
   pub act : Act
   pub at : ℕ
 
+-- the paths are equal, name by name
 abbrev pub same_path : List (List ℕ) → List (List ℕ) → Bool
 same_path [] [] = true
 same_path [] (n ∷ ns) = false
 same_path (m ∷ ms) [] = false
 same_path (m ∷ ms) (n ∷ ns) = bytes_eq m n && same_path ms ns
 
+-- both flags are true, or both false
 abbrev pub same_flag : Bool → Bool → Bool
 same_flag true b = b
 same_flag false b = not b
@@ -42,6 +44,7 @@ acts_clash gives_parent gives_parent = true
 acts_clash (defines single name) (defines single' name') = same_flag single single' && bytes_eq name name'
 acts_clash _ _ = false
 
+-- the two definitions count twice: of one path, with acts that can't both stand in a file
 abbrev pub clash : Mark → Mark → Bool
 clash m n = same_path m.path n.path && acts_clash m.act n.act
 

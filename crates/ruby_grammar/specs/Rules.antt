@@ -11,9 +11,11 @@ use Rattle.ruby_grammar.specs.Words.{Word}
 use Rattle.ruby_grammar.specs.Terminals.{Level}
 use Rattle.ruby_grammar.specs.Marks.{Mark, Act}
 
+-- a name's bytes
 abbrev pub Name : Type 0
 Name = List ℕ
 
+-- the names of a constant's path, the outermost first; the top of a file has none
 abbrev pub Path : Type 0
 Path = List Name
 
@@ -75,6 +77,7 @@ pub data Sort : Type 0 where
   some_parts : Sort
   no_value : Sort
 
+-- what a rule of this sort gives: a tree, a list of them, or names
 abbrev pub Val : Sort → Type 0
 Val a_tree = FileTree
 Val some_defs = List Def
@@ -153,5 +156,6 @@ pub data Rule : Sort → Type 0 where
   -- the parts of a text behind its opening quote; the flag is true of double quotes
   text_parts : Scope → Bool → List Part → Rule some_parts
 
+-- what the grammar speaks of: words of tokens, marks of definitions, and the rules with their values
 abbrev pub ruby : Signs
 ruby = record { Word = Word; Mark = Mark; Sort = Sort; Val = Val; Rule = Rule }

@@ -38,9 +38,11 @@ single_text (b ∷ []) = b ∷ []
 single_text (b ∷ c ∷ bs) = if (b == 92) && ((c == 39) || (c == 92)) then c ∷ single_text bs else b ∷ single_text
     (c ∷ bs)
 
+-- the bytes that a piece of a text stands for, by its quote; the flag is true of double quotes
 abbrev pub text_bytes : Bool → List ℕ → List ℕ
 text_bytes double text = if double then double_text text else single_text text
 
+-- the text begins with this byte
 abbrev pub begins_with : ℕ → List ℕ → Bool
 begins_with b [] = false
 begins_with b (c ∷ cs) = c == b

@@ -33,11 +33,13 @@ use Rattle.ruby_token.proofs.Words.{split_if, at_most, exactly, drop_front}
 use Rattle.ruby_token.proofs.Runs.{run_len, white_is}
 use Rattle.ruby_token.proofs.Singles.{single_longest}
 
+-- how many bytes a lexeme has; none where no lexeme begins
 abbrev pub size : Lexeme → ℕ
 size (l.Gap n) = n
 size (l.Token kind n) = n
 size l.Nothing = 0
 
+-- the lexer's answer for a lexeme of this kind and length
 abbrev pub as_is : What → ℕ → Lexeme
 as_is gap n = l.Gap n
 as_is (token kind) n = l.Token kind n
@@ -137,6 +139,7 @@ quote_is b h = grind (arith, nat_tests)
 
 -- ---- operators
 
+-- the lexer's answer in code as a function of all the bytes at hand, none of them included
 abbrev pub front_code : State → List ℕ → Lexeme
 front_code s [] = l.Nothing
 front_code s (b ∷ bs) = code_lexeme s b bs
@@ -242,6 +245,7 @@ best_white s b n x h i = elim (white_is b h) [
   | inr e' ↦ rw e' (best_gap (suc n) (1 + prefix_len is_white x) (omega arith))
 ]
 
+-- in code whatever lexeme may stand at the place is shorter than the lexer's answer, or is that answer
 pub best_outside : (s : State) (w : What) (t r : List ℕ) → InCode s w t r → Best (front_code s (t ++ r)) w (length t)
 best_outside s w t r (white {b = b} {t = u} h e) = best_white s b (length u) (u ++ r) h (at_most is_white u r e)
 best_outside s w t r (comment {t = u} h) =
@@ -301,6 +305,7 @@ plain_len t r (escape {e = e} {t = u} h p) =
 some_more : (n m : ℕ) → suc n ≤ m → nat_lt 0 m ≡ true
 some_more n m h = grind (arith, nat_tests)
 
+-- the same inside a text in double quotes
 pub best_double : (w : What) (t r : List ℕ) → InDouble w t r → Best (double_lexeme (t ++ r)) w (length t)
 best_double w t r (piece {b = b} {t = u} p) =
     let i : length (b ∷ u) ≤ piece_len (b ∷ (u ++ r)) = plain_len (b ∷ u) r p in
@@ -309,6 +314,7 @@ best_double w t r (piece {b = b} {t = u} p) =
 best_double w t r closing = inr refl
 best_double w t r opening = inr refl
 
+-- the same inside a text in single quotes
 pub best_single : (w : What) (t r : List ℕ) → InSingle w t r → Best (single_lexeme (t ++ r)) w (length t)
 best_single w t r (piece_single {b = b} {t = u} p) =
     let i : length (b ∷ u) ≤ single_len (b ∷ (u ++ r)) = single_longest (b ∷ u) r p in

@@ -62,11 +62,13 @@ some_in None s w t r h = code_some s w t r h
 some_in (Some q.Double) s w t r h = double_some w t r h
 some_in (Some q.Single) s w t r h = single_some w t r h
 
+-- no rule lets a lexeme be empty, so each step of a cut goes on in the bytes
 pub some_text : (s : State) (w : What) (t r : List ℕ) → Is s w t r → 0 < length t
 some_text s w t r h = some_in (text_at s.opens) s w t r h
 
 -- ---- the lexeme, by the place where it stands
 
+-- the lexer's answer before a byte turns on the text that the place stands in; unfolds `lexeme` in one step
 pub lexeme_by : (s : State) (b : ℕ) (bs : List ℕ) → lexeme s (b ∷ bs) ≡ lexeme_in (text_at s.opens) s b bs
 unfolding lexeme
 lexeme_by s b bs = refl
@@ -141,6 +143,7 @@ shape s w t r [] h e = absurd (let z : 0 < length t = some_text s w t r h in let
     rw length-append at (ap length e) in omega arith)
 shape s w t r (b ∷ bs) h e = (b, bs, refl)
 
+-- as many bytes as the front has are the front
 pub take_front : (t r : List ℕ) → take (length t) (t ++ r) ≡ t
 take_front [] r = refl
 take_front (b ∷ t) r = ap (λ x. b ∷ x) (take_front t r)
@@ -165,6 +168,7 @@ none_nothing v s b bs (l.Gap n) h g = absurd (g gap h.text h.rest h.is (sym h.wh
 none_nothing v s b bs (l.Token kind n) h g = absurd (g (token kind) h.text h.rest h.is (sym h.whole))
 none_nothing v s b bs l.Nothing h g = refl
 
+-- a cut can have no outcome but what reading gives (uniqueness)
 pub cut_read : {v : Bool} {s : State} {n : ℕ} {bs : List ℕ} {o : Outcome} → Cut v s n bs o → o ≡ read v s n 0 bs
 cut_read (ends {s = s} {n = n}) = ap (at_end _ s) (sym (add-zero n))
 cut_read {v = v} (passes {s = s} {n = n} {t = t} {r = r} {bs = bs} h e c) =
@@ -281,6 +285,7 @@ one_step v s n b bs (l.Token kind m) e h ih = one_token v s n b m kind bs h.text
     (is_big kind h.text) refl e h.is h.whole h.size ih
 one_step v s n b bs l.Nothing e h ih = rw (read_nothing v s n (b ∷ bs) e (omega arith)) (stuck (to_none s b bs e))
 
+-- what reading gives is a cut, also from inside a lexeme of which j bytes are left
 pub read_cut : (v : Bool) (bs : List ℕ) (s : State) (n j : ℕ) → Cut v s (n + j) (drop j bs) (read v s n j bs)
 read_cut v [] s n zero = ends
 read_cut v [] s n (suc j) = ends
@@ -291,10 +296,12 @@ read_cut v (b ∷ bs) s n (suc j) =
     let g : n + 1 + j ≡ n + suc j = omega arith in
     subst (λ x. Cut v s x (drop j bs) (read v s (n + 1) j bs)) g (read_cut v bs s (n + 1) j)
 
+-- what reading gives from a file's first byte on is a cut of the file
 pub is_cut : (v : Bool) (bs : List ℕ) → Cut v start 0 bs (outcome_of v bs)
 unfolding outcome_of
 is_cut v bs = read_cut v bs start 0 0
 
+-- a file is cut in one way: as reading cuts it
 pub one_cut : (v : Bool) (bs : List ℕ) (o : Outcome) → Cut v start 0 bs o → o ≡ outcome_of v bs
 unfolding outcome_of
 one_cut v bs o h = cut_read h

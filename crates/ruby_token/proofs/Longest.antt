@@ -12,20 +12,24 @@ use Rattle.ruby_token.specs.Lexemes.{Row, first_row, later_row}
 use Rattle.std.specs.Char.{is_ascii_digit, is_ascii_uppercase}
 use Rattle.ruby_token.specs.Bytes.{is_word, is_lower, is_white, is_line_end, is_quote, next_passes}
 
+-- at most is less or equal: splits a length that may be the longest
 pub le_cases : (n m : ℕ) → n ≤ m → (n < m) ⊎ (n ≡ m)
 le_cases zero zero h = inr refl
 le_cases zero (suc m) h = inl (omega arith)
 le_cases (suc n) zero h = absurd (omega arith)
 le_cases (suc n) (suc m) h = elim (le_cases n m (omega arith)) [ inl a ↦ inl (omega arith) | inr e ↦ inr (ap suc e) ]
 
+-- where both of two tests pass the first does
 pub and_left : (a b : Bool) → (a && b) ≡ true → a ≡ true
 and_left true b h = refl
 and_left false b h = cc
 
+-- where both of two tests pass the second does
 pub and_right : (a b : Bool) → (a && b) ≡ true → b ≡ true
 and_right true b h = h
 and_right false b h = cc
 
+-- a test whose negation passes fails
 pub not_true : (a : Bool) → not a ≡ true → a ≡ false
 not_true true h = cc
 not_true false h = refl
@@ -43,10 +47,12 @@ abbrev ranked : List (List ℕ × Op) → Bool
 ranked [] = true
 ranked (q ∷ rs) = below q rs && ranked rs
 
+-- a byte that begins no word, number, gap, line or text: an operator may begin with it
 abbrev pub is_mark : ℕ → Bool
 is_mark c = not (is_lower c ||
     (is_ascii_uppercase c || (is_ascii_digit c || (is_white c || ((c == 35) || (is_line_end c || is_quote c))))))
 
+-- what each operator's text meets: it begins with a mark, and no letter, digit or `_` comes second
 abbrev pub text_ok : List ℕ → Bool
 text_ok [] = false
 text_ok (c ∷ cs) = is_mark c && not (next_passes is_word cs)
@@ -98,6 +104,7 @@ later true q rs t r x e h f =
     ] in
     record { what = (q.1, length q.0); is = rw g refl; best = far }
 
+-- in a table whose longer rows come first, the first row that fits is no shorter than any other that fits
 pub longest_row : (rs : List (List ℕ × Op)) (t r : List ℕ) (x : Op) → Row rs t x → ranked rs ≡ true →
     Found (first_in rs (t ++ r)) t x
 longest_row _ t r x (first_row {rs = rs}) h =
@@ -111,9 +118,11 @@ longest_row _ t r x (later_row {q = q} {rs = rs} m) h =
     (row_below rs q t x m (and_left (below q rs) (ranked rs) h))
     (longest_row rs t r x m (and_right (below q rs) (ranked rs) h))
 
+-- each row of the operators begins with a mark and has no letter, digit or `_` behind it
 pub operator_ok : (t : List ℕ) (x : Op) → Row operators t x → text_ok t ≡ true
 operator_ok t x m = row_ok operators t x m refl
 
+-- before an operator's text the lexer finds that operator or a longer one
 pub operator_longest : (t r : List ℕ) (x : Op) → Row operators t x → Found (operator_at (t ++ r)) t x
 unfolding operator_at
 operator_longest t r x m = longest_row operators t r x m refl
@@ -131,6 +140,7 @@ or_false : (a b : Bool) → not (a || b) ≡ true → (a ≡ false) × (not b �
 or_false true b h = cc
 or_false false b h = (refl, h)
 
+-- that a byte is a mark, taken apart: each of the other classes of bytes refuses it
 pub is_of_mark : (c : ℕ) → is_mark c ≡ true → Mark c
 is_of_mark c h =
     let a = or_false (is_lower c) _ h in
@@ -141,8 +151,10 @@ is_of_mark c h =
     let g = or_false (is_line_end c) _ f.1 in
     record { lower = a.0; upper = b.0; digit = d.0; white = e.0; comment = f.0; line = g.0; quote = not_true _ g.1 }
 
+-- the first byte of an operator is a mark, so the lexer comes to its table of operators
 pub ok_mark : (c : ℕ) (cs : List ℕ) → text_ok (c ∷ cs) ≡ true → Mark c
 ok_mark c cs h = is_of_mark c (and_left (is_mark c) (not (next_passes is_word cs)) h)
 
+-- behind an operator's first byte stands no word of its own, so `-`, `@` and `:` aren't taken for other tokens
 pub ok_next : (c : ℕ) (cs : List ℕ) → text_ok (c ∷ cs) ≡ true → next_passes is_word cs ≡ false
 ok_next c cs h = not_true _ (and_right (is_mark c) (not (next_passes is_word cs)) h)

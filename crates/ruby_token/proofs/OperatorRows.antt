@@ -1,3 +1,4 @@
+-- An operator that is found has a byte, and no more than there are.
 use Rattle.std.proofs.Common.{ℕ, ◌<◌, ◌≤◌, List, [], ◌∷◌, Option, Some, None, IfSome, length, true, false, Bool, arith}
 use Rattle.std.proofs.Common.{nat_eq, if◌then◌else◌}
 use Rattle.std.specs.List.{starts_with, AllByRecursion}
@@ -16,10 +17,12 @@ positive : (rs : List (List ℕ × Op)) (bs : List ℕ) → AllByRecursion (λ r
 positive [] bs h = tt
 positive (r ∷ rs) bs h = one (starts_with nat_eq bs r.0) r (first_in rs bs) h.0 (positive rs bs h.1)
 
+-- an operator that is found has a byte at least: with this the lexer's loop goes on
 pub operator_positive : (bs : List ℕ) → IfSome (operator_at bs) (λ f. 0 < f.1)
 unfolding operator_at
 operator_positive bs = positive operators bs (search arith)
 
+-- two bounds of the length that is found, told apart, put together
 pub both : (o : Option (Op × ℕ)) (n : ℕ) → IfSome o (λ f. 0 < f.1) → IfSome o (λ f. f.1 ≤ n) →
     IfSome o (λ f. (0 < f.1) × (f.1 ≤ n))
 both None n h g = tt

@@ -94,6 +94,7 @@ gives_of f.Memory n ts h = absurd h
 
 -- ---- what the calls answer
 
+-- a call that gives what reading gives of the UTF-8 front meets its clause `found`
 pub found_by : {A E : Type 0} (r : Result A E) (g : A → Outcome) (bytes : List ℕ) (n : ℕ) →
     n ≡ utf8_valid_len bytes → IfOk r (λ a. g a ≡ outcome_of (n == length bytes) (take n bytes)) →
     IfOk r (λ a. Lexes bytes (g a))
@@ -102,6 +103,7 @@ found_by (Ok a) g bytes n e h =
     subst (λ o. Lexes bytes o) (sym h') (is_cut (is_all_utf8 bytes) (utf8_front bytes))
 found_by (Err x) g bytes n e h = tt
 
+-- a call that gives what reading gives of the UTF-8 front meets its clause `only`: no other outcome is a cut
 pub only_by : {A E : Type 0} (r : Result A E) (g : A → Outcome) (bytes : List ℕ) (n : ℕ) (o : Outcome) →
     n ≡ utf8_valid_len bytes → IfOk r (λ a. g a ≡ outcome_of (n == length bytes) (take n bytes)) → Lexes bytes o →
     IfOk r (λ a. o ≡ g a)
@@ -110,10 +112,12 @@ only_by (Ok a) g bytes n o e h l =
     one_cut (is_all_utf8 bytes) (utf8_front bytes) o l ∙ sym h'
 only_by (Err x) g bytes n o e h l = tt
 
+-- the tokens of a cut stand in rising spans of the UTF-8 front, each with a text of its kind
 pub spans_front : (bytes : List ℕ) (ts : List Token) (e : Option LexFault) → Lexes bytes (with_fault ts e) →
     Spans (utf8_front bytes) 0 ts
 spans_front bytes ts e h = subst (λ x. Spans (utf8_front bytes) 0 x) (tokens_with ts e) (spans_of h [] refl)
 
+-- the clause `spans` of `lex`, from its clause `found`
 pub spans_by : {A E : Type 0} (r : Result A E) (ts : A → List Token) (x : A → Option LexFault) (bytes : List ℕ) →
     IfOk r (λ a. Lexes bytes (with_fault (ts a) (x a))) → IfOk r (λ a. Spans (utf8_front bytes) 0 (ts a))
 spans_by (Ok a) ts x bytes h = spans_front bytes (ts a) (x a) h
@@ -138,6 +142,7 @@ pub found_of : {A : Type 0} (r : Result A LexFault) (g : A → List Token) (byte
 found_of (Ok a) g bytes o l h = subst (Lexes bytes) (sym h) l
 found_of (Err x) g bytes o l h = tt
 
+-- the clause `spans` of `tokens`: without a fault all bytes are UTF-8, so the spans are those of the file
 pub spans_done : {A : Type 0} (r : Result A LexFault) (g : A → List Token) (bytes : List ℕ) →
     IfOk r (λ a. Lexes bytes (done (g a))) → IfOk r (λ a. Spans bytes 0 (g a))
 spans_done (Ok a) g bytes h = subst (λ x. Spans x 0 (g a)) (all_front bytes (done_whole h (g a) refl))
@@ -149,12 +154,14 @@ fault_gives : (bytes : List ℕ) (ts : List Token) (x : LexFault) (o : Outcome) 
 fault_gives bytes ts x o l e = subst (λ y. FaultGives x.kind x.at y) e
     (gives_of x.kind x.at ts (cut_of (subst (Lexes bytes) (sym e) l)))
 
+-- the clause `fault` of `tokens`: the fault that it returns is the one that the cut ends in
 pub fault_of : {A : Type 0} (r : Result A LexFault) (ts : List Token) (bytes : List ℕ) (o : Outcome) →
     Lexes bytes o → IfErr r (λ x. fault ts x.kind x.at ≡ o) →
     IfErr r (λ x. (o : Outcome) × Lexes bytes o × FaultGives x.kind x.at o)
 fault_of (Ok a) ts bytes o l h = tt
 fault_of (Err x) ts bytes o l h = (o, l, fault_gives bytes ts x o l h)
 
+-- the clause `only` of `tokens`: any cut of the bytes has the tokens, or the fault, that it returns
 pub only_of : {A : Type 0} (r : Result A LexFault) (g : A → List Token) (ts : List Token) (bytes : List ℕ)
     (o o' : Outcome) → Lexes bytes o → IfOk r (λ a. done (g a) ≡ o) → IfErr r (λ x. fault ts x.kind x.at ≡ o) →
     o' ≡ o → MatchResult r (λ a. o' ≡ done (g a)) (λ x. FaultGives x.kind x.at o')

@@ -23,20 +23,24 @@ skip v s n (suc j) (b ∷ bs) =
     let e : n + 1 + j ≡ n + suc j = omega arith in
     skip v s (n + 1) j bs ∙ ap (λ m. read v s m 0 (drop j bs)) e
 
+-- tokens put before an outcome in two goes are those put before it at once
 pub put_put : (ts us : List Token) (o : Outcome) → put ts (put us o) ≡ put (ts ++ us) o
 put_put ts us (done vs) = ap done (sym (append_assoc ts us vs))
 put_put ts us (fault vs kind n) = ap (λ x. fault x kind n) (sym (append_assoc ts us vs))
 
+-- no tokens put before an outcome leave it as it is
 pub put_none : (o : Outcome) → put [] o ≡ o
 put_none (done ts) = refl
 put_none (fault ts kind n) = refl
 
+-- tokens put before a fault alone, or before nothing, are the outcome of these tokens and that fault
 pub put_fault : (ts : List Token) (e : Option LexFault) → put ts (with_fault [] e) ≡ with_fault ts e
 put_fault ts None = ap done (append-nil ts)
 put_fault ts (Some e) = ap (λ x. fault x e.kind e.at) (append-nil ts)
 
 -- ---- one lexeme
 
+-- before a gap reading goes on behind it, with no token more
 pub read_gap : (v : Bool) (s : State) (n m : ℕ) (bs : List ℕ) → lexeme s bs ≡ l.Gap m → 0 < m → 0 < length bs →
     read v s n 0 bs ≡ read v (state_past (take m bs) s) (n + m) 0 (drop m bs)
 read_gap v s n m [] e p q = absurd (omega arith)
@@ -46,9 +50,11 @@ read_gap v s n (suc k) (b ∷ bs) e p q =
     let s' : State = state_past (take (suc k) (b ∷ bs)) s in
     rw (e, read) (skip v s' (n + 1) k bs ∙ ap (λ m. read v s' m 0 (drop k bs)) g)
 
+-- the token of this kind that begins at n and has m bytes
 abbrev pub token_at : TokenKind → ℕ → ℕ → Token
 token_at kind n m = record { kind = kind; from = n; to = n + m }
 
+-- before a token that is no number out of range, reading gives the token and goes on behind it
 pub read_token : (v : Bool) (s : State) (n m : ℕ) (kind : TokenKind) (bs : List ℕ) → lexeme s bs ≡ l.Token kind m →
     0 < m → 0 < length bs → is_big kind (take m bs) ≡ false →
     read v s n 0 bs ≡ put (token_at kind n m ∷ []) (read v (state_after kind (take m bs) n s) (n + m) 0 (drop m bs))
@@ -60,11 +66,13 @@ read_token v s n (suc k) kind (b ∷ bs) e p q i =
     rw (e, read, i) (ap (put (token_at kind n (suc k) ∷ [])) (skip v s' (n + 1) k bs
     ∙ ap (λ m. read v s' m 0 (drop k bs)) g))
 
+-- before a number that is out of range reading ends in that fault
 pub read_big : (v : Bool) (s : State) (n m : ℕ) (kind : TokenKind) (bs : List ℕ) → lexeme s bs ≡ l.Token kind m →
     0 < length bs → is_big kind (take m bs) ≡ true → read v s n 0 bs ≡ fault [] f.BigNumber n
 read_big v s n m kind [] e q i = absurd (omega arith)
 read_big v s n m kind (b ∷ bs) e q i = rw (e, read, i) refl
 
+-- where no lexeme begins reading ends as one is stuck there
 pub read_nothing : (v : Bool) (s : State) (n : ℕ) (bs : List ℕ) → lexeme s bs ≡ l.Nothing → 0 < length bs →
     read v s n 0 bs ≡ stuck_at v s n bs
 read_nothing v s n [] e q = absurd (omega arith)
@@ -72,6 +80,7 @@ read_nothing v s n (b ∷ bs) e q = rw (e, read) refl
 
 -- ---- what the loop keeps
 
+-- the loop's invariant (tokens so far, then what reading gives of the rest) is kept past a gap
 pub along_gap : (v : Bool) (s s' : State) (ts : List Token) (n m : ℕ) (bs rest : List ℕ) (o : Outcome) →
     l.Gap m ≡ lexeme s rest → rest ≡ drop n bs → 0 < m → n < length bs → s' ≡ state_past (take m rest) s →
     put ts (read v s n 0 (drop n bs)) ≡ o → put ts (read v s' (n + m) 0 (drop (n + m) bs)) ≡ o
@@ -84,6 +93,7 @@ along_gap v s s' ts n m bs rest o e r p q es h =
     ∙ ap (λ x. put ts (read v x (n + m) 0 (drop m (drop n bs)))) es'
     ∙ ap (put ts) (sym (read_gap v s n m (drop n bs) e' p q')) ∙ h
 
+-- the loop's invariant is kept past a token that is pushed
 pub along_token : (v : Bool) (s s' : State) (ts us : List Token) (kind : TokenKind) (n m : ℕ) (bs rest : List ℕ)
     (o : Outcome) → l.Token kind m ≡ lexeme s rest → rest ≡ drop n bs → 0 < m → n < length bs →
     is_big kind (take m rest) ≡ false → s' ≡ state_after kind (take m rest) n s → us ≡ ts ++ token_at kind n m ∷ [] →
@@ -101,6 +111,7 @@ along_token v s s' ts us kind n m bs rest o e r p q i es eu h =
     (read v (state_after kind (take m (drop n bs)) n s) (n + m) 0 (drop m (drop n bs))))
     ∙ ap (put ts) (sym (read_token v s n m kind (drop n bs) e' p q' i')) ∙ h
 
+-- the loop's invariant makes the answer right where a number is out of range
 pub along_big : (v : Bool) (s : State) (ts : List Token) (kind : TokenKind) (n m : ℕ) (bs rest : List ℕ)
     (o : Outcome) → l.Token kind m ≡ lexeme s rest → rest ≡ drop n bs → n < length bs →
     is_big kind (take m rest) ≡ true → put ts (read v s n 0 (drop n bs)) ≡ o → fault ts f.BigNumber n ≡ o
@@ -112,6 +123,7 @@ along_big v s ts kind n m bs rest o e r q i h =
     ap (put ts) (read_big v s n m kind (drop n bs) e' q' i') in
     ap (λ x. fault x f.BigNumber n) (sym (append-nil ts)) ∙ sym z ∙ h
 
+-- the loop's invariant makes the answer right where no lexeme begins
 pub along_stuck : (v : Bool) (s : State) (ts : List Token) (n : ℕ) (bs rest : List ℕ) (x : Option LexFault)
     (o : Outcome) → l.Nothing ≡ lexeme s rest → rest ≡ drop n bs → n < length bs →
     with_fault [] x ≡ stuck_at v s n rest → put ts (read v s n 0 (drop n bs)) ≡ o → with_fault ts x ≡ o
@@ -126,6 +138,7 @@ along_stuck v s ts n bs rest x o e r q g h =
 no_more : (n : ℕ) (bs : List ℕ) → length bs ≤ n → drop n bs ≡ []
 no_more n bs h = grind (arith, common_steps)
 
+-- the loop's invariant makes the answer right at the end of the bytes
 pub along_end : (v : Bool) (s : State) (ts : List Token) (n : ℕ) (bs : List ℕ) (x : Option LexFault) (o : Outcome) →
     length bs ≤ n → with_fault [] x ≡ at_end v s n → put ts (read v s n 0 (drop n bs)) ≡ o → with_fault ts x ≡ o
 along_end v s ts n bs x o q g h =
@@ -134,9 +147,11 @@ along_end v s ts n bs x o q g h =
     let y : read v s n 0 (drop n bs) ≡ with_fault [] x = z ∙ ap (at_end v s) (add-zero n) ∙ sym g in
     sym (put_fault ts x) ∙ sym (ap (put ts) y) ∙ h
 
+-- the slice from n to the end is all bytes from n on
 pub whole : (n k : ℕ) (bs : List ℕ) → k ≡ length bs - n → take k (drop n bs) ≡ drop n bs
 whole n k bs e = grind (arith, common_steps)
 
+-- a lexeme within the slice from n on ends within the bytes, so the loop's place stays in range
 pub room : (n m : ℕ) (bs : List ℕ) → m ≤ length (take (length bs - n) (drop n bs)) → n ≤ length bs → n + m ≤ length bs
 room n m bs h g =
     let h' : m ≤ length (drop n bs) = rw (whole n (length bs - n) bs refl) at h in

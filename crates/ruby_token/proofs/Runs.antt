@@ -9,16 +9,19 @@ use Rattle.ruby_token.specs.Lengths.{one_more, lines_len, reach}
 
 -- ---- what the scan keeps
 
+-- where a line end is passed the run's length counts from behind it; keeps the invariant of the scan
 pub reach_end : (n last k : ℕ) → reach (n + 1) (n + 1) k ≡ reach n last (suc k)
 reach_end n last zero = omega arith
 reach_end n last (suc k) = omega arith
 
+-- where white or a comment is passed the run's length stays that up to the last line end, unless one follows
 pub reach_more : (n last k : ℕ) → reach (n + 1) last k ≡ reach n last (one_more k)
 reach_more n last zero = refl
 reach_more n last (suc k) = omega arith
 
 -- ---- one byte of the scan
 
+-- white is a space, TAB or CR: splits the class into its bytes
 pub white_is : (b : ℕ) → is_white b ≡ true → ((b ≡ 32) ⊎ (b ≡ 9)) ⊎ (b ≡ 13)
 white_is b h = grind (arith, nat_tests)
 
@@ -80,6 +83,7 @@ comment_len v (b ∷ c) x n h p g =
     let j : suc (length c + n) ≤ one_more (lines_len v true (c ++ 10 ∷ x)) = more_than _ _ (omega arith) i in
     rw (len_inside v b (c ++ 10 ∷ x) h.0) (omega arith)
 
+-- a run of line ends is no longer than the scan goes
 pub run_len : (v : Bool) (t r : List ℕ) → Ends v t → length t ≤ lines_len v false (t ++ r)
 run_len v t r (last_end {b = b} h) = rw (len_end v b r h) (omega arith)
 run_len v t r (more_ends {b = b} {t = u} h e) =
@@ -225,6 +229,7 @@ run_of : (v : Bool) (t : List ℕ) → Tail v false t → (t ≡ []) ⊎ (Ends v
 run_of v [] e = inl refl
 run_of v (b ∷ t) e = inr e
 
+-- what the scan goes over is a run of line ends, or nothing
 pub run_at : (v : Bool) (bs : List ℕ) → RunAt v bs
 run_at v bs = let f = run_in v false bs in
     record { text = f.text; rest = f.rest; whole = f.whole; size = f.size; run = run_of v f.text f.tail }

@@ -26,6 +26,7 @@ len_lone : (x : List ℕ) → next_passes is_single_escape x ≡ false → singl
 len_lone [] h = refl
 len_lone (b ∷ x) h = sym (len_byte b x h)
 
+-- plain text in single quotes is no longer than the scan goes
 pub single_longest : (t r : List ℕ) → Single t r → length t ≤ single_from false (t ++ r)
 single_longest t r nothing_single = omega arith
 single_longest t r (byte_single {b = b} {t = u} h p) =
@@ -108,6 +109,7 @@ two_at b e bs f g =
     ])
     (λ h. byte_at b (e ∷ bs) h f)
 
+-- what the scan goes over is plain text in single quotes
 pub single_at : (bs : List ℕ) → SingleAt bs
 single_at [] = record { text = []; rest = []; whole = refl; size = refl; plain = nothing_single }
 single_at (b ∷ []) = one_at b

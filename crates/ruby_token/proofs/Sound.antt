@@ -41,11 +41,13 @@ pub record At (s : State) (bs : List ℕ) (w : What) (n : ℕ) : Type 0 where
   pub size : n ≡ length text
   pub is : InCode s w text rest
 
+-- the bytes begin with what the lexer answers in code; of no lexeme it says nothing
 abbrev pub Holds : State → List ℕ → Lexeme → Type 0
 Holds s bs (l.Gap n) = At s bs gap n
 Holds s bs (l.Token kind n) = At s bs (token kind) n
 Holds s bs l.Nothing = Unit {0}
 
+-- shows that the bytes begin with a lexeme, from the lexeme, what is behind it and its rule
 pub at : {s : State} {w : What} (bs t r : List ℕ) (n : ℕ) → bs ≡ t ++ r → n ≡ length t → InCode s w t r → At s bs w n
 at bs t r n e z h = record { text = t; rest = r; whole = e; size = z; is = h }
 
@@ -343,6 +345,7 @@ sound_space s b bs =
     (λ a2. split_if P (is_quote b) _ _ (λ h. at (b ∷ bs) (b ∷ []) bs 1 refl refl (quote h))
     (λ a3. sound_mark s b bs))))
 
+-- in code the bytes begin with the lexeme that the lexer answers
 pub sound_outside : (s : State) (b : ℕ) (bs : List ℕ) → Holds s (b ∷ bs) (code_lexeme s b bs)
 sound_outside s b bs =
     let P : Lexeme → Type 0 = λ x. Holds s (b ∷ bs) x in
@@ -465,6 +468,7 @@ pub record AtDouble (bs : List ℕ) (w : What) (n : ℕ) : Type 0 where
   pub size : n ≡ length text
   pub is : InDouble w text rest
 
+-- the same in double quotes: the bytes begin with what the lexer answers there
 abbrev pub HoldsDouble : List ℕ → Lexeme → Type 0
 HoldsDouble bs (l.Gap n) = AtDouble bs gap n
 HoldsDouble bs (l.Token kind n) = AtDouble bs (token kind) n
@@ -493,6 +497,7 @@ sound_double_mark b bs = split_if (λ x. HoldsDouble (b ∷ bs) x) (b == 34) _ _
     at_double (b ∷ bs) (35 ∷ 123 ∷ []) p.0 2 (ap (λ x. x ∷ bs) e ∙ ap (λ x. 35 ∷ x) w) refl opening)
     (λ h. tt))
 
+-- in double quotes the bytes begin with the lexeme that the lexer answers
 pub sound_double : (b : ℕ) (bs : List ℕ) → HoldsDouble (b ∷ bs) (double_lexeme (b ∷ bs))
 sound_double b bs =
     let f = plain_at (b ∷ bs) in
@@ -510,6 +515,7 @@ pub record AtSingle (bs : List ℕ) (w : What) (n : ℕ) : Type 0 where
   pub size : n ≡ length text
   pub is : InSingle w text rest
 
+-- the same in single quotes: the bytes begin with what the lexer answers there
 abbrev pub HoldsSingle : List ℕ → Lexeme → Type 0
 HoldsSingle bs (l.Gap n) = AtSingle bs gap n
 HoldsSingle bs (l.Token kind n) = AtSingle bs (token kind) n
@@ -523,6 +529,7 @@ sound_single_piece : (bs : List ℕ) (n : ℕ) → n ≡ single_len bs → 0 < n
 sound_single_piece bs n e h [] r w z p = absurd (omega (arith, e, z, h))
 sound_single_piece bs n e h (b ∷ t) r w z p = at_single bs (b ∷ t) r n w (e ∙ z) (piece_single p)
 
+-- in single quotes the bytes begin with the lexeme that the lexer answers
 pub sound_single : (b : ℕ) (bs : List ℕ) → HoldsSingle (b ∷ bs) (single_lexeme (b ∷ bs))
 sound_single b bs =
     let f = single_at (b ∷ bs) in

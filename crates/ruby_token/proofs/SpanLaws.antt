@@ -13,10 +13,12 @@ use Rattle.ruby_token.specs.Spans.{Spans}
 use Rattle.ruby_token.proofs.Words.{split_if, drop_front}
 use Rattle.ruby_token.proofs.Cuts.{take_front, some_text}
 
+-- the tokens of an outcome, be they all or those before its fault
 abbrev pub tokens_in : Outcome → List Token
 tokens_in (done ts) = ts
 tokens_in (fault ts kind n) = ts
 
+-- an outcome made of tokens and perhaps a fault has these tokens
 pub tokens_with : (ts : List Token) (e : Option LexFault) → tokens_in (with_fault ts e) ≡ ts
 tokens_with ts None = refl
 tokens_with ts (Some e) = refl
@@ -55,6 +57,7 @@ slice p t r n e = rw (drop_front p (t ++ r), e) (take_front t r)
 no_tokens : (p bs : List ℕ) (n : ℕ) (ts : List Token) → ts ≡ [] → n ≡ length p → Spans (p ++ bs) n ts
 no_tokens p bs n ts z e = rw (z, e, length-append) (omega arith)
 
+-- a cut that begins at n has spans that rise from n on, each with a text of its kind
 pub spans_of : {v : Bool} {s : State} {n : ℕ} {bs : List ℕ} {o : Outcome} → Cut v s n bs o → (p : List ℕ) →
     n ≡ length p → Spans (p ++ bs) n (tokens_in o)
 spans_of {v = v} (ends {s = s} {n = n}) p e = no_tokens p [] n _ (none_at_end v s n) e

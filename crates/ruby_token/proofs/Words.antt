@@ -4,6 +4,7 @@ use Rattle.std.proofs.Common.{if◌then◌else◌}
 use Rattle.std.specs.List.{prefix_len}
 use Rattle.ruby_token.specs.Bytes.{Every}
 
+-- what holds of both branches, each under its test, holds of the whole choice
 pub split_if : {A : Type 0} (P : A → Type 0) (b : Bool) (x y : A) → (b ≡ true → P x) → (b ≡ false → P y) →
     P (if b then x else y)
 split_if P true x y h g = h refl
@@ -33,6 +34,7 @@ front_more p b bs false e f = record {
   every = tt;
 }
 
+-- splits bytes into the longest front of which each byte passes, and the rest
 pub front : (p : ℕ → Bool) (bs : List ℕ) → Front p bs
 front p [] = record { text = []; rest = []; whole = refl; size = refl; every = tt }
 front p (b ∷ bs) = front_more p b bs (p b) refl (front p bs)
@@ -54,6 +56,7 @@ exactly p (b ∷ t) q r h n =
     let i : prefix_len p (t ++ q ∷ r) ≡ length t = exactly p t q r h.1 n in
     rw g (omega (arith, i))
 
+-- what is left behind the front is the rest
 pub drop_front : (t r : List ℕ) → drop (length t) (t ++ r) ≡ r
 drop_front [] r = refl
 drop_front (b ∷ t) r = drop_front t r

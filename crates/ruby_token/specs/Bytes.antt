@@ -19,6 +19,7 @@ is_word b = is_ascii_alphanumeric b || (b == 95)
 abbrev pub is_white : ℕ → Bool
 is_white b = (b == 32) || (b == 9) || (b == 13)
 
+-- not LF: what a comment may have
 abbrev pub not_lf : ℕ → Bool
 not_lf b = not (b == 10)
 

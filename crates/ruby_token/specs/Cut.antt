@@ -34,6 +34,7 @@ pub record Longest (s : State) (w : What) (t r : List ℕ) : Type 0 where
 abbrev pub NoLexeme : State → List ℕ → Type 0
 NoLexeme s bs = (w : What) (t r : List ℕ) → Is s w t r → t ++ r ≡ bs → ⊥
 
+-- at the file's end: a fault at an open text's quote, or all is well
 abbrev pub open_text : Option ℕ → Outcome
 open_text None = done []
 open_text (Some quote) = fault [] f.OpenText quote
@@ -44,6 +45,7 @@ open_text (Some quote) = fault [] f.OpenText quote
 abbrev pub at_end : Bool → State → ℕ → Outcome
 at_end whole s n = if whole then open_text (outermost s.opens) else fault [] f.BadByte n
 
+-- one byte is left, the file's last
 abbrev pub is_last : List ℕ → Bool
 is_last bs = length bs == 1
 
@@ -54,6 +56,7 @@ abbrev pub stuck_in : Option Quote → Bool → State → ℕ → List ℕ → O
 stuck_in None whole s n bs = fault [] f.BadByte n
 stuck_in (Some q) whole s n bs = if whole && is_last bs then at_end whole s n else fault [] f.BadEscape n
 
+-- how the cut ends where no lexeme begins, by the text that the place stands in
 abbrev pub stuck_at : Bool → State → ℕ → List ℕ → Outcome
 stuck_at whole s n bs = stuck_in (text_at s.opens) whole s n bs
 
@@ -99,6 +102,7 @@ abbrev pub IsFaultOf : Outcome → LexKind → ℕ → Type 0
 IsFaultOf (done ts) kind n = ⊥
 IsFaultOf (fault ts kind n) kind' n' = (kind' ≡ kind) × (n' ≡ n)
 
+-- this fault is the outcome's, by kind and place; or it is want of memory, told at 0 whatever the outcome
 abbrev pub FaultGives : LexKind → ℕ → Outcome → Type 0
 FaultGives f.Memory n o = n ≡ 0
 FaultGives f.BadByte n o = IsFaultOf o f.BadByte n

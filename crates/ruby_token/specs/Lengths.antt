@@ -10,6 +10,7 @@ abbrev pub suffix_len : List ℕ → ℕ
 suffix_len [] = 0
 suffix_len (c ∷ cs) = if is_suffix c && not (next_is 61 cs) then 1 else 0
 
+-- a name's letters, digits and `_`, and its `?` or `!`: of `a?=b` 1, of `a? b` 2
 abbrev pub name_len : List ℕ → ℕ
 name_len bs = prefix_len is_word bs + suffix_len (drop (prefix_len is_word bs) bs)
 
@@ -24,12 +25,15 @@ digits_len (b ∷ bs) = if is_ascii_digit b || ((b == 95) && next_passes is_asci
 abbrev pub in_comment : Bool → ℕ → Bool
 in_comment comment b = comment && not_lf b
 
+-- a run of line ends may go on over this byte: a line end, white, a comment's `#` or what stands in a comment
 abbrev pub goes_on : Bool → Bool → ℕ → Bool
 goes_on bracket comment b = in_comment comment b || (ends_line bracket b || (is_between bracket b || (b == 35)))
 
+-- this byte is a line end of the run, and stands in no comment
 abbrev pub ends_here : Bool → Bool → ℕ → Bool
 ends_here bracket comment b = not (in_comment comment b) && ends_line bracket b
 
+-- behind this byte the place stands in a comment
 abbrev pub comments : Bool → ℕ → Bool
 comments comment b = in_comment comment b || (b == 35)
 
@@ -38,6 +42,7 @@ abbrev pub one_more : ℕ → ℕ
 one_more zero = zero
 one_more (suc n) = suc (suc n)
 
+-- the length of the run of line ends at the front, up to the last of them: of `; # c`, LF, space, `b` 6
 abbrev pub lines_len : Bool → Bool → List ℕ → ℕ
 lines_len bracket comment [] = 0
 lines_len bracket comment (b ∷ bs) =
@@ -61,6 +66,7 @@ piece_from escaped [] = 0
 piece_from escaped (b ∷ bs) = if not escaped && piece_ends b bs then 0 else suc
     (piece_from (not escaped && (b == 92)) bs)
 
+-- the plain bytes and escapes at the front of a text in double quotes
 abbrev pub piece_len : List ℕ → ℕ
 piece_len bs = piece_from false bs
 
@@ -69,5 +75,6 @@ abbrev pub single_from : Bool → List ℕ → ℕ
 single_from escaped [] = 0
 single_from escaped (b ∷ bs) = if not escaped && (b == 39) then 0 else suc (single_from (not escaped && (b == 92)) bs)
 
+-- the plain bytes and escapes at the front of a text in single quotes
 abbrev pub single_len : List ℕ → ℕ
 single_len bs = single_from false bs

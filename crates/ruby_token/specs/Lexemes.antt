@@ -38,6 +38,7 @@ pub data Number : List ℕ → Type 0 where
 abbrev pub ends_line : Bool → ℕ → Bool
 ends_line bracket b = (b == 59) || ((b == 10) && not bracket)
 
+-- what may stand between two line ends of a run: white, and in brackets an LF
 abbrev pub is_between : Bool → ℕ → Bool
 is_between bracket b = is_white b || ((b == 10) && bracket)
 
@@ -53,6 +54,7 @@ pub data Row : List (List ℕ × Op) → List ℕ → Op → Type 0 where
   first_row : {t : List ℕ} {x : Op} {rs : List (List ℕ × Op)} → Row ((t, x) ∷ rs) t x
   later_row : {q : List ℕ × Op} {t : List ℕ} {x : Op} {rs : List (List ℕ × Op)} → Row rs t x → Row (q ∷ rs) t x
 
+-- the operator is `}`, which may also end an inside part
 abbrev pub is_close_brace : Op → Bool
 is_close_brace op.CloseBrace = true
 is_close_brace _ = false
@@ -125,6 +127,7 @@ pub data InSingle : What → List ℕ → List ℕ → Type 0 where
   piece_single : {b : ℕ} {t r : List ℕ} → Single (b ∷ t) r → InSingle (token k.TextPiece) (b ∷ t) r
   closing_single : {r : List ℕ} → InSingle (token k.TextClose) (39 ∷ []) r
 
+-- the lexeme t may stand before r, by the rules of the text that the place stands in, or those of code
 abbrev pub IsIn : Option Quote → State → What → List ℕ → List ℕ → Type 0
 IsIn None s w t r = InCode s w t r
 IsIn (Some q.Double) s w t r = InDouble w t r

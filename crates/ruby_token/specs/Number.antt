@@ -10,6 +10,7 @@ abbrev pub magnitude_from : ℕ → List ℕ → ℕ
 magnitude_from n [] = n
 magnitude_from n (b ∷ bs) = magnitude_from (next_value n b) bs
 
+-- the value of digits; an underscore counts for nothing: of `1_000` it is 1000
 abbrev pub magnitude : List ℕ → ℕ
 magnitude digits = magnitude_from 0 digits
 

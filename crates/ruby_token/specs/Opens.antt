@@ -4,6 +4,7 @@ use Rattle.ruby_token.specs.declared.opens.Quote.{Quote}
 use Rattle.ruby_token.specs.declared.opens.Open.{Open}
 use Rattle.ruby_token.specs.declared.opens.Open.TheVariants as o
 
+-- the innermost of what is open
 abbrev pub top_of : List Open → Option Open
 top_of [] = None
 top_of (x ∷ xs) = Some x

@@ -3,6 +3,7 @@ use Rattle.std.specs.Prelude.{ℕ, Bool, true, false, List, [], ◌∷◌, codes
 use Rattle.ruby_token.specs.declared.token.Op.{Op}
 use Rattle.ruby_token.specs.declared.token.Op.TheVariants as op
 
+-- the texts of the operators and marks, also of those that the profile leaves out, which it refuses by name
 abbrev pub operators : List (List ℕ × Op)
 operators =
     (codes "<=>", op.Compare) ∷ (codes "===", op.CaseSame) ∷ (codes "...", op.OpenRange) ∷

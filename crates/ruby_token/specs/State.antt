@@ -28,6 +28,7 @@ valueless_words =
     "unless"
     ∷ codes "elsif" ∷ codes "then" ∷ codes "raise" ∷ codes "include" ∷ codes "attr_reader" ∷ []
 
+-- the text is one of these words
 abbrev pub is_one_of : List (List ℕ) → List ℕ → Bool
 is_one_of [] text = false
 is_one_of (w ∷ ws) text = if (length text == length w) && starts_with nat_eq text w then true else is_one_of ws text
@@ -58,16 +59,19 @@ after_token k.InsideClose text = a.Other
 after_token k.TextClose text = a.Value
 after_token (k.Op x) text = after_op x
 
+-- the last token ends a value, so that a `-` behind it is an operator
 abbrev pub ends_value : After → Bool
 ends_value a.Value = true
 ends_value _ = false
 
+-- the last token lets the text go on, so that an LF behind it is dropped
 abbrev pub joins : After → Bool
 joins a.Joins = true
 joins _ = false
 
 -- ---- what is open
 
+-- the quote that a text opens with: single for `'`, else double
 abbrev pub quote_of : List ℕ → Quote
 quote_of text = if next_is 39 text then q.Single else q.Double
 
@@ -78,6 +82,7 @@ close_brace (o.Brace ∷ xs) = xs
 close_brace (o.Text q n ∷ xs) = o.Text q n ∷ xs
 close_brace (o.Inside ∷ xs) = o.Inside ∷ xs
 
+-- what is open behind an operator: `{` opens a brace, and `}` closes one that is the innermost
 abbrev pub opens_op : Op → List Open → List Open
 opens_op op.OpenBrace xs = o.Brace ∷ xs
 opens_op op.CloseBrace xs = close_brace xs
@@ -94,6 +99,7 @@ opens_after _ text n xs = xs
 
 -- ---- brackets: an opening one opens, and a closing one closes the innermost, of whichever kind
 
+-- how many brackets are open behind an operator
 abbrev pub brackets_op : Op → ℕ → ℕ
 brackets_op op.OpenParen m = m + 1
 brackets_op op.OpenBracket m = m + 1
@@ -103,15 +109,18 @@ brackets_op op.CloseBracket m = m - 1
 brackets_op op.CloseBrace m = m - 1
 brackets_op _ m = m
 
+-- how many brackets are open behind a token: only operators open and close them
 abbrev pub brackets_after : TokenKind → ℕ → ℕ
 brackets_after (k.Op x) m = brackets_op x m
 brackets_after _ m = m
 
+-- some bracket is open, so that an LF counts as white
 abbrev pub in_brackets : State → Bool
 in_brackets s = nat_lt 0 s.brackets
 
 -- ---- the state behind some bytes
 
+-- a lexeme's last byte, the byte before what comes next
 abbrev pub last_of : List ℕ → ℕ
 last_of text = slice_index text (length text - 1)
 

@@ -34,12 +34,15 @@ double_mark [] = l.Nothing
 double_mark (b ∷ bs) = if b == 34 then l.Token k.TextClose 1 else
     (if (b == 35) && next_is 123 bs then l.Token k.InsideOpen 2 else l.Nothing)
 
+-- where no piece begins in single quotes: the closing quote
 abbrev pub single_mark : List ℕ → Lexeme
 single_mark bs = if next_is 39 bs then l.Token k.TextClose 1 else l.Nothing
 
+-- in double quotes: a piece if there is one, else the closing quote or `#{`
 abbrev pub double_lexeme : List ℕ → Lexeme
 double_lexeme bs = if nat_lt 0 (piece_len bs) then l.Token k.TextPiece (piece_len bs) else double_mark bs
 
+-- in single quotes: a piece if there is one, else the closing quote
 abbrev pub single_lexeme : List ℕ → Lexeme
 single_lexeme bs = if nat_lt 0 (single_len bs) then l.Token k.TextPiece (single_len bs) else single_mark bs
 
@@ -58,11 +61,13 @@ word_lexeme bs = if colon_at (drop (name_len bs) bs) then l.Token k.Label (1 + n
 abbrev pub int_lexeme : ℕ → ℕ → List ℕ → Lexeme
 int_lexeme sign b bs = if b == 48 then l.Token k.Int (sign + 1) else l.Token k.Int (sign + 1 + digits_len bs)
 
+-- the operator that was found; a `}` in an inside part without an open brace ends that part
 abbrev pub operator_by : List Open → Option (Op × ℕ) → Lexeme
 operator_by opens None = l.Nothing
 operator_by opens (Some x) = if is_close_brace x.0 && in_inside opens then l.Token k.InsideClose x.1 else l.Token
     (k.Op x.0) x.1
 
+-- the operator at the front of these bytes, if there is one
 abbrev pub operator_lexeme : List Open → List ℕ → Lexeme
 operator_lexeme opens bs = operator_by opens (operator_at bs)
 
@@ -106,6 +111,7 @@ space_lexeme s b bs =
     else (if is_quote b then l.Token k.TextOpen 1
     else mark_lexeme s b bs)))
 
+-- in code, by the first byte: a name or label, a constant, a number, or what begins with no letter or digit
 abbrev pub code_lexeme : State → ℕ → List ℕ → Lexeme
 code_lexeme s b bs =
     if is_lower b then word_lexeme bs
@@ -113,6 +119,7 @@ code_lexeme s b bs =
     else (if is_ascii_digit b then int_lexeme 0 b bs
     else space_lexeme s b bs))
 
+-- the lexeme at these bytes, by the text that the place stands in
 abbrev pub lexeme_in : Option Quote → State → ℕ → List ℕ → Lexeme
 lexeme_in None s b bs = code_lexeme s b bs
 lexeme_in (Some q.Double) s b bs = double_lexeme (b ∷ bs)
@@ -136,5 +143,6 @@ IsToken (l.Token k n) p = p n
 IsToken (l.Gap n) p = ⊥
 IsToken l.Nothing p = ⊥
 
+-- a token that has a byte, and no more than these and the one before them
 abbrev pub WithinMore : Lexeme → List ℕ → Type 0
 WithinMore l bs = IsToken l (λ n. (0 < n) × (n ≤ 1 + length bs))

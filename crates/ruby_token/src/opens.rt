@@ -37,6 +37,7 @@ impl Model for Opens {
 }
 
 impl Opens {
+    /// Nothing is open, as at the first byte of a file.
     pub fn new(alloc: Global) -> Opens
         ensures { result ≡ [] }
     {
@@ -45,6 +46,7 @@ impl Opens {
         }
     }
 
+    /// Opens one thing more, which is then the innermost; without memory all stays as it was.
     pub fn push(&mut self, item: Open) -> Result<(), AllocError>
         ensures ok { OnOk result (self.new ≡ item ∷ self.old) }
         ensures err { OnErr result (self.new ≡ self.old) }

@@ -9,6 +9,7 @@ ghost use Rattle.ruby_token.specs.Lexemes.{ends_line, is_between};
 ghost use Rattle.ruby_token.specs.Lengths.{suffix_len, name_len, digits_len, in_comment, goes_on, ends_here, comments};
 ghost use Rattle.ruby_token.specs.Lengths.{lines_len, piece_ends, piece_len, single_len};
 
+/// A small letter or `_`: what a name begins with.
 pub fn is_lower(b: u8) -> bool
     ensures { result ≡ is_lower b }
 {
@@ -21,18 +22,21 @@ fn is_word(b: u8) -> bool
     b.is_ascii_alphanumeric() || b == b'_'
 }
 
+/// Space, TAB or CR: white never ends a line.
 pub fn is_white(b: u8) -> bool
     ensures { result ≡ is_white b }
 {
     b == b' ' || b == b'\t' || b == b'\r'
 }
 
+/// LF or `;`: what ends a line.
 pub fn is_line_end(b: u8) -> bool
     ensures { result ≡ is_line_end b }
 {
     b == b'\n' || b == b';'
 }
 
+/// `"` or `'`: what a text opens and closes with.
 pub fn is_quote(b: u8) -> bool
     ensures { result ≡ is_quote b }
 {

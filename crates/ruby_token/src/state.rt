@@ -101,6 +101,7 @@ fn after_token(kind: TokenKind, text: &[u8]) -> After
     }
 }
 
+/// Whether the last token ends a value, so that a `-` behind it is an operator: of `x -1`, but not of `return -1`.
 pub fn ends_value(after: After) -> bool
     ensures { result ≡ ends_value after }
 {
@@ -133,6 +134,7 @@ pub fn in_inside(opens: &Opens) -> bool
     }
 }
 
+/// Whether some bracket is open, so that an LF counts as white.
 pub fn in_brackets(state: &State) -> bool
     ensures { result ≡ in_brackets state.now }
 {

@@ -1,7 +1,9 @@
 //! Texts without a fault. A cut lists each token's kind, and its text between backquotes.
 
+/// A text, and its cut.
 pub type Row = (&'static str, &'static str);
 
+/// Names, constants, instance variables, labels and symbols, and what a `?`, `!`, `=` or `:` behind them is.
 pub static NAMES: [Row; 26] = [
     ("", ""),
     ("a", "Name`a`"),
@@ -37,6 +39,7 @@ pub static NAMES: [Row; 26] = [
     ("A:b", "Const`A` Sym`:b`"),
 ];
 
+/// Numbers: leading zeros, underscores, and when a `-` is the sign of one.
 pub static NUMBERS: [Row; 27] = [
     ("0 7 42 1_000", "Int`0` Int`7` Int`42` Int`1_000`"),
     ("01", "Int`0` Int`1`"),
@@ -76,6 +79,7 @@ pub static NUMBERS: [Row; 27] = [
     ("-01", "Int`-0` Int`1`"),
 ];
 
+/// Line ends: runs of them, comments between them, and LFs that are dropped.
 pub static LINES: [Row; 23] = [
     ("a\nb", "Name`a` Line`\n` Name`b`"),
     ("a\n\n;\nb", "Name`a` Line`\n\n;\n` Name`b`"),
@@ -114,6 +118,7 @@ pub static LINES: [Row; 23] = [
     ),
 ];
 
+/// Operators: each by its text, and the longest where several begin.
 pub static OPERATORS: [Row; 14] = [
     (
         "|| && ! == != < <= > >=",
@@ -155,6 +160,7 @@ pub static OPERATORS: [Row; 14] = [
     ("}", "Op(CloseBrace)`}`"),
 ];
 
+/// Texts in quotes: pieces, escapes, and the insides of `#{` and `}`.
 pub static TEXTS: [Row; 17] = [
     ("\"\"", "TextOpen`\"` TextClose`\"`"),
     ("''", "TextOpen`'` TextClose`'`"),

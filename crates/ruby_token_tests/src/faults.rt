@@ -2,8 +2,10 @@
 
 use ruby_token::LexKind;
 
+/// A text, the kind of its first fault, and the fault's place.
 pub type Row = (&'static str, LexKind, u32);
 
+/// Open texts, wrong escapes, numbers out of range, and bytes with which no token begins.
 pub static FAULTS: [Row; 28] = [
     ("\"ab", LexKind::OpenText, 0),
     ("x = 'ab", LexKind::OpenText, 4),
@@ -39,6 +41,7 @@ pub static FAULTS: [Row; 28] = [
     ("a\0", LexKind::BadByte, 1),
 ];
 
+/// Bytes, the kind of their first fault, and the fault's place.
 pub struct BytesRow {
     pub bytes: &'static [u8],
     pub kind: LexKind,
