@@ -15,26 +15,32 @@ use Rattle.app_config.specs.declared.config.ConfigKind.{ConfigKind}
 abbrev pub configuration_path : List ℕ
 configuration_path = codes "config/loader.conf"
 
+-- what an entry `root` says; other entries say no root
 abbrev pub root_of : Entry → Option RootLine
 root_of (Root line) = Some line
 root_of _ = None
 
+-- the pattern of an entry `collapse`
 abbrev pub collapse_of : Entry → Option (List ℕ)
 collapse_of (Collapse pattern) = Some pattern
 collapse_of _ = None
 
+-- the pattern of an entry `ignore`
 abbrev pub ignore_of : Entry → Option (List ℕ)
 ignore_of (Ignore pattern) = Some pattern
 ignore_of _ = None
 
+-- the base name and the constant of an entry `inflect`
 abbrev pub inflect_of : Entry → Option (List ℕ × List ℕ)
 inflect_of (Inflect pair) = Some pair
 inflect_of _ = None
 
+-- the constant path and the text of an entry `on_load`
 abbrev pub on_load_of : Entry → Option LoadLine
 on_load_of (OnLoad line) = Some line
 on_load_of _ = None
 
+-- the pattern of an entry `skip_eager`
 abbrev pub skip_eager_of : Entry → Option (List ℕ)
 skip_eager_of (SkipEager pattern) = Some pattern
 skip_eager_of _ = None
@@ -50,6 +56,7 @@ collected entries = record {
   skip_eager = filter_map skip_eager_of entries;
 }
 
+-- the entry that a line says; none for an empty line, a comment or a fault
 abbrev pub entry_said : Result (Option Entry) ConfigKind → List Entry
 entry_said (Ok (Some entry)) = entry ∷ []
 entry_said _ = []
@@ -62,6 +69,7 @@ entries all = flat_map (λ line. entry_said (meaning line)) all
 abbrev pub configuration : List ℕ → Config
 configuration text = collected (entries (lines text))
 
+-- the fault that a line has, with the line's number; none where it has none
 abbrev pub fault_said : ℕ → Result (Option Entry) ConfigKind → List ConfigFault
 fault_said number (Err kind) = record { line = number; kind = kind } ∷ []
 fault_said number (Ok _) = []
@@ -88,6 +96,7 @@ with_entry config (SkipEager pattern) = record config { skip_eager = config.skip
 with_entry config (Inflect pair) = record config { inflect = config.inflect ++ pair ∷ [] }
 with_entry config (OnLoad line) = record config { on_load = config.on_load ++ line ∷ [] }
 
+-- a configuration with what one line more says, which is nothing for an empty line, a comment or a fault
 abbrev pub with_said : Config → Result (Option Entry) ConfigKind → Config
 with_said config (Ok (Some entry)) = with_entry config entry
 with_said config _ = config

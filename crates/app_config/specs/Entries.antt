@@ -29,6 +29,7 @@ directive_of word =
     else (if bytes_eq word (codes "inflect") then Some directive.Inflect
     else (if bytes_eq word (codes "on_load") then Some directive.OnLoad else None)))))
 
+-- the names of a word that is a constant path; any other word is a bad name
 abbrev pub constant_path : List ℕ → Result (List (List ℕ)) ConfigKind
 constant_path word = if is_constant_path word then Ok (constant_names word) else Err BadName
 
@@ -70,6 +71,7 @@ directed (Some directive.SkipEager) operands text = mapped SkipEager (pattern op
 directed (Some directive.Inflect) operands text = inflect_entry operands
 directed (Some directive.OnLoad) operands text = on_load_entry operands text
 
+-- what the words of a line say, of which the first is the directive, with the text behind the second
 abbrev pub worded : List (List ℕ) → List ℕ → Result Entry ConfigKind
 worded [] text = Err UnknownWord
 worded (word ∷ operands) text = directed (directive_of word) operands text

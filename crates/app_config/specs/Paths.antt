@@ -8,6 +8,7 @@ use Rattle.app_config.specs.Text.{split, is_filled}
 abbrev pub is_name_byte : ℕ → Bool
 is_name_byte byte = is_ascii_alphanumeric byte || (byte == 95)
 
+-- a text of letters, digits and `_` alone, the empty one too
 abbrev pub are_name_bytes : List ℕ → Bool
 are_name_bytes bytes = list_all is_name_byte bytes
 
@@ -41,6 +42,7 @@ constant_names word = every_second (split 58 word)
 abbrev pub is_plain : List ℕ → Bool
 is_plain segment = is_filled segment && not (bytes_eq segment (codes ".")) && not (bytes_eq segment (codes ".."))
 
+-- a segment is `app` or `lib`, the two that paths of a configuration begin with
 abbrev pub is_top : List ℕ → Bool
 is_top segment = bytes_eq segment (codes "app") || bytes_eq segment (codes "lib")
 
@@ -48,6 +50,7 @@ is_top segment = bytes_eq segment (codes "app") || bytes_eq segment (codes "lib"
 abbrev pub segments : List ℕ → List (List ℕ)
 segments path = split 47 path
 
+-- each segment of a path names a file or a directory
 abbrev pub are_plain : List ℕ → Bool
 are_plain path = list_all is_plain (segments path)
 

@@ -15,6 +15,7 @@ without_return line = if slice_index line (length line - 1) == 13 then take (len
 abbrev pub lines : List ℕ → List (List ℕ)
 lines text = map without_return (split 10 text)
 
+-- a text has at least one byte
 abbrev pub is_filled : List ℕ → Bool
 is_filled [] = false
 is_filled (_ ∷ _) = true
@@ -23,6 +24,7 @@ is_filled (_ ∷ _) = true
 abbrev pub words : List ℕ → List (List ℕ)
 words line = filter is_filled (split 32 line)
 
+-- the byte that stands between words, 32
 abbrev pub is_space : ℕ → Bool
 is_space byte = byte == 32
 

@@ -21,8 +21,10 @@ pub type Patterns = Listed<ConfigText>;
 /// Base names, each with the constant that it is camelized to.
 pub type TextPairs = Listed<(ConfigText, ConfigText)>;
 
+/// What the lines `root` say, in their order.
 pub type RootLines = Listed<RootLine>;
 
+/// What the lines `on_load` say, in their order.
 pub type LoadLines = Listed<LoadLine>;
 
 /// A root directory and the namespace of the constants below it.
@@ -58,6 +60,7 @@ pub struct ConfigFault {
     pub kind: ConfigKind,
 }
 
+/// What is wrong with a line. Each text says a way out.
 #[derive(Clone, Copy, Debug, PartialEq, Eq, Error)]
 pub enum ConfigKind {
     /// The first word is none that begins a line, or there is no word.

@@ -1,7 +1,9 @@
 //! What the program says of itself.
 
+/// The answer to `--version`.
 pub const VERSION: &str = "devserver 0.1.0\n";
 
+/// The answer to `--help`: the commands, what isn't built yet, and the exit statuses.
 pub const USAGE: &str = "usage: devserver COMMAND
 
 Run in a Rails application's folder.

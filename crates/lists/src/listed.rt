@@ -31,12 +31,14 @@ impl<T> Listed<T> {
         }
     }
 
+    /// The list of a vector's members, none of which is copied.
     pub fn from_vec(items: Vec<T>) -> Listed<T>
         ensures { result ≡ items.items }
     {
         Listed { items }
     }
 
+    /// The members as a vector, none of which is copied.
     pub fn into_vec(self) -> Vec<T>
         ensures { result.items ≡ self }
     {
@@ -44,18 +46,21 @@ impl<T> Listed<T> {
         items
     }
 
+    /// The number of members.
     pub fn len(&self) -> usize
         ensures { result ≡ length self.now }
     {
         self.items.len()
     }
 
+    /// Whether there is no member.
     pub fn is_empty(&self) -> bool
         ensures { IsTrue result ↔ (self.now ≡ []) }
     {
         self.items.is_empty()
     }
 
+    /// The member at this place, which is counted from 0.
     pub fn at(&self, place: usize) -> &T
         requires { place < length self.now }
         ensures { slice_get self.now place ≡ Some result.now }
@@ -63,6 +68,7 @@ impl<T> Listed<T> {
         &self.items[place]
     }
 
+    /// The members in their order.
     pub fn as_slice(&self) -> &[T]
         ensures { result.now ≡ self.now }
     {

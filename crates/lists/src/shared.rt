@@ -22,6 +22,7 @@ impl<T> Model for Shared<T> {
 }
 
 impl<T: Drop> Shared<T> {
+    /// The first owner of a value. Where memory runs out, the value is dropped.
     pub fn new(alloc: Global, value: T) -> Result<Shared<T>, AllocError>
         ensures { IfOk result (λ shared. shared ≡ value) }
     {
@@ -33,6 +34,7 @@ impl<T: Drop> Shared<T> {
 }
 
 impl<T> Shared<T> {
+    /// The value that the owners share.
     pub fn get(&self) -> &T
         ensures { result.now ≡ self.now }
     {

@@ -33,6 +33,7 @@ impl<T> SharedList<T> {
         SharedList { held: None, alloc }
     }
 
+    /// The members in their order.
     pub fn as_slice(&self) -> &[T]
         ensures { result.now ≡ self.now }
     {
@@ -42,18 +43,21 @@ impl<T> SharedList<T> {
         }
     }
 
+    /// The number of members.
     pub fn len(&self) -> usize
         ensures { result ≡ length self.now }
     {
         self.as_slice().len()
     }
 
+    /// Whether there is no member.
     pub fn is_empty(&self) -> bool
         ensures { IsTrue result ↔ (self.now ≡ []) }
     {
         self.as_slice().is_empty()
     }
 
+    /// The member at this place, which is counted from 0.
     pub fn at(&self, place: usize) -> &T
         requires { place < length self.now }
         ensures { slice_get self.now place ≡ Some result.now }
@@ -63,6 +67,7 @@ impl<T> SharedList<T> {
 }
 
 impl<T: Drop> SharedList<T> {
+    /// The list of a vector's members, none of which is copied. Where memory runs out, they are dropped.
     pub fn from_vec(alloc: Global, items: Vec<T>) -> Result<SharedList<T>, AllocError>
         ensures { IfOk result (λ list. list ≡ items.items) }
     {
@@ -114,12 +119,14 @@ impl<T: Drop> Copying for SharedList<T> {
 }
 
 impl SharedList<u8> {
+    /// The list of these bytes, copied; an error where memory runs out.
     pub fn from_bytes(alloc: Global, bytes: &[u8]) -> Result<SharedList<u8>, AllocError>
         ensures { IfOk result (λ text. text ≡ bytes.now) }
     {
         SharedList::from_vec(alloc, Vec::from_slice(alloc, bytes)?)
     }
 
+    /// The bytes in their order.
     pub fn as_bytes(&self) -> &[u8]
         ensures { result.now ≡ self.now }
     {

@@ -24,6 +24,7 @@ named path class name same least below is decides =
           decides.1 (let both : ◌≡◌ {A = List (List ℕ)} (name ∷ []) (class ∷ []) = sym here ∙ e in cc),
     )
 
+-- a singleton method with one parameter, whose body is one plain text, is a method of the first form
 pub method_from : (definition : Def) (single : Bool) (name text found : List ℕ) (params : List (List ℕ))
     (body slice : List Stmt) (count : ℕ)
     → definition ≡ def.Method single name params body → single ≡ true → count ≡ length params → count ≡ 1 →

@@ -38,6 +38,7 @@ found_before files count asked file None inside is other found =
     one_more (λ f. f.path ≡ asked.path → ⊥) files count file inside is found other
 found_before files count asked file (Some reply) inside is other found = found
 
+-- a file with another path than the one that is asked for leaves the reply as it was found
 pub passed : (files : List FileEntry) (count : ℕ) (asked : Asked) (file : FileEntry) (reply now : Option Reply) →
     count < length files → file ≡ get_or files count file
     → IsReadable file → (file.path ≡ asked.path → ⊥) → IsJudgedBelow files count asked reply → now ≡ reply →
@@ -48,6 +49,7 @@ passed files count asked file reply now inside is readable other (all, found) sa
       (sym same) (found_before files count asked file reply inside is other found),
 )
 
+-- the reply of a file with the path that is asked for is the reply that is found
 pub met : (files : List FileEntry) (count : ℕ) (asked : Asked) (file : FileEntry) (before now : Option Reply)
     (reply : Reply) → count < length files → file ≡ get_or files count file
     → IsReadable file → file.path ≡ asked.path → IsFileReply asked.class asked.action.now file reply →
@@ -58,6 +60,7 @@ met files count asked file before now reply inside is readable placed given (all
       (sym same) (file, (count, inside, sym is), placed, given),
 )
 
+-- what was found when all files were judged is the reply
 pub all_judged : (files : List FileEntry) (count : ℕ) (asked : Asked) (reply : Option Reply) → length files ≤ count →
     IsFoundBelow files count asked reply → IsFoundReply files asked reply
 all_judged files count asked None whole found = λ file among placed.

@@ -21,6 +21,7 @@ abbrev pub text_parts : List ℕ → List Part
 text_parts [] = []
 text_parts (byte ∷ bytes) = part.Plain (byte ∷ bytes) ∷ []
 
+-- a method's body that is one plain text
 abbrev pub text_body : List ℕ → List Stmt
 text_body text = stmt.Expr (expr.Str (text_parts text)) ∷ []
 
@@ -32,5 +33,6 @@ first_method parts = def.Method true parts.name (parts.parameter ∷ []) (text_b
 abbrev pub first_class : List ℕ → FirstParts → Def
 first_class class parts = def.Class (class ∷ []) None (first_method parts ∷ [])
 
+-- the tree of a file that has this class alone
 abbrev pub first_tree : List ℕ → FirstParts → FileTree
 first_tree class parts = record { defs = first_class class parts ∷ [] }

@@ -35,9 +35,11 @@ abbrev pub IsRefusalOf : List FileEntry → FirstRefusal → Type 0
 IsRefusalOf files (NotBuilt path) = Any (λ file. (file.path ≡ path) × ¬ (IsReadable file)) files
 IsRefusalOf files Memory = ⊤
 
+-- the body of a 404 where the controller has no file: `no controller HelloController`
 abbrev pub no_controller_text : (class : List ℕ) → List ℕ
 no_controller_text class = codes "no controller " ++ class
 
+-- the body of a 404 where the method has another name: `no action show in HelloController`
 abbrev pub no_action_text : (class action : List ℕ) → List ℕ
 no_action_text class action = codes "no action " ++ (action ++ (codes " in " ++ class))
 

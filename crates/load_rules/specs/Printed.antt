@@ -33,5 +33,6 @@ Tells why words = ⊥
 abbrev pub error_head : (kind : List ℕ) (at : ℕ) → List ℕ
 error_head kind at = codes "SyntaxError: " ++ (kind ++ (codes " at byte " ++ (decimal at ++ codes " (")))
 
+-- `SyntaxError: unexpected at byte 12 (app/controllers/hello_controller.rb)`
 abbrev pub syntax_error : (kind : List ℕ) (at : ℕ) (path : List ℕ) → List ℕ
 syntax_error kind at path = error_head kind at ++ (path ++ codes ")")

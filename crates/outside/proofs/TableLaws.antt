@@ -18,6 +18,7 @@ use Rattle.outside.specs.Table.{files_before, files_after, with_file, without_fi
 use Rattle.outside.specs.declared.files.FileEntry.{FileEntry}
 
 -- ---- the order of paths
+-- a text that comes after another one has it before itself
 pub after_is : (a b : List ℕ) → order a b ≡ Greater → order b a ≡ Less
 after_is a b h = let e = nat_list_cmp_total.antisymm b a in e ∙ ap ordering_reverse h
 
@@ -42,6 +43,7 @@ index_at_most Equal = omega arith
 index_at_most Greater = omega arith
 
 -- ---- what passes at the front alone, or at the back alone
+-- where a test passes up to a place and not from there on, the members up to the place pass
 pub filter_front : {X : Type 0} (p : X → Bool) (xs : List X) (i : ℕ) → AllWithin (λ x. p x ≡ true) xs 0 i →
     AllWithin (λ x. p x ≡ false) xs i (length xs) → filter p xs ≡ take i xs
 filter_front p [] zero front back = refl
@@ -236,6 +238,7 @@ with_rises files file rise = paths_rise (with_file file files)
     (all_before files file.path k d lt) (across_path files file.path k d lt)))
 
 -- ---- what a write at a place makes
+-- a file written over the one of its path is in its place among the files
 pub set_at_place : (files : List FileEntry) (file : FileEntry) (i : ℕ) → IsPlace files file.path i (i + 1) →
     set files i file ≡ with_file file files
 set_at_place files file i place =

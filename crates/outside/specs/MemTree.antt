@@ -30,6 +30,7 @@ abbrev pub file_written : (path bytes : List ℕ) → (number : ℕ) → FileEnt
 file_written path bytes number =
     record { path = path; bytes = bytes; stamp = record { length = length bytes; time = number } }
 
+-- the tree after a write of a watched file
 abbrev pub with_held : FileEntry → TreeState → TreeState
 with_held file tree = record {
   held = with_file file tree.held;
@@ -39,6 +40,7 @@ with_held file tree = record {
   calls = tree.calls;
 }
 
+-- the tree after a write of another file, which is kept and isn't given
 abbrev pub with_other : FileEntry → TreeState → TreeState
 with_other file tree = record {
   held = tree.held;

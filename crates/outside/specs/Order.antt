@@ -6,6 +6,7 @@ use Rattle.std.specs.Cmp.Lexicographic.{slice_cmp}
 use Rattle.std.specs.declared.cmp.Ordering.{Ordering}
 use Rattle.std.specs.declared.cmp.Ordering.TheVariants.{Less}
 
+-- how two texts compare, by the first byte in which they differ, else by their lengths
 abbrev pub order : List ℕ → List ℕ → Ordering
 order a b = slice_cmp nat_cmp a b
 

@@ -4,6 +4,7 @@ use Rattle.outside.specs.Told.{prefixed}
 use Rattle.outside.specs.declared.answers.ReadAns.{ReadAns}
 use Rattle.outside.specs.declared.answers.ReadAns.TheVariants.{Got, End, Failed}
 
+-- the read counts as a fault
 abbrev pub read_failed : ReadAns → Bool
 read_failed (Got n) = false
 read_failed End = false

@@ -7,6 +7,7 @@ use Rattle.outside.specs.declared.files.FileEntry.{FileEntry}
 use Rattle.outside.specs.declared.answers.StampsAns.{StampsAns}
 use Rattle.outside.specs.declared.answers.StampsAns.TheVariants.{Read, Failed, Memory}
 
+-- the look at the stamps counts as a fault; want of memory doesn't
 abbrev pub stamps_failed : StampsAns → Bool
 stamps_failed (Read stamps) = false
 stamps_failed Failed = true

@@ -9,6 +9,7 @@ use Rattle.outside.specs.declared.files.FileEntry.{FileEntry}
 abbrev pub files_before : List ℕ → List FileEntry → List FileEntry
 files_before path files = filter (λ f. is_lt (order f.path path)) files
 
+-- the files whose paths come after this path
 abbrev pub files_after : List ℕ → List FileEntry → List FileEntry
 files_after path files = filter (λ f. is_gt (order f.path path)) files
 

@@ -7,6 +7,7 @@ use Rattle.outside.specs.declared.files.FileEntry.{FileEntry}
 use Rattle.outside.specs.declared.answers.TreeAns.{TreeAns}
 use Rattle.outside.specs.declared.answers.TreeAns.TheVariants.{Read, Failed, Memory}
 
+-- the read of all files counts as a fault; want of memory doesn't
 abbrev pub tree_failed : TreeAns → Bool
 tree_failed (Read snapshot) = false
 tree_failed Failed = true

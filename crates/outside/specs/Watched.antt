@@ -6,6 +6,7 @@ use Rattle.outside.specs.Order.{Rising}
 abbrev pub BeginsWith : List ℕ → List ℕ → Type 0
 BeginsWith first path = (rest : List ℕ) × (path ≡ first ++ rest)
 
+-- some beginning stands before this end of the path
 abbrev pub EndsWith : List ℕ → List ℕ → Type 0
 EndsWith last path = (front : List ℕ) × (path ≡ front ++ last)
 

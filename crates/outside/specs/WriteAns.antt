@@ -4,6 +4,7 @@ use Rattle.outside.specs.Told.{appended}
 use Rattle.outside.specs.declared.answers.WriteAns.{WriteAns}
 use Rattle.outside.specs.declared.answers.WriteAns.TheVariants.{Took, Failed}
 
+-- the write counts as a fault
 abbrev pub write_failed : WriteAns → Bool
 write_failed (Took n) = false
 write_failed Failed = true

@@ -28,6 +28,7 @@ impl Model for Calls {
 }
 
 impl Calls {
+    /// No calls yet. Those with these numbers, counted from 1, are to fail.
     pub fn new(fails: CallNumbers) -> Calls
         ensures { result ≡ uncalled fails }
     {

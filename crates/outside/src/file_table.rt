@@ -68,6 +68,7 @@ fn take_out(files: &mut Vec<FileEntry>, place: usize)
 }
 
 impl FileTable {
+    /// A table of no files, which takes no memory.
     pub fn new(alloc: Global) -> FileTable
         ensures { result ≡ [] }
     {
@@ -76,6 +77,7 @@ impl FileTable {
         }
     }
 
+    /// The files in the order of their paths by bytes. No two have the same path.
     pub fn files(&self) -> &[FileEntry]
         ensures files { result.now ≡ self.now }
         ensures rising { Rising (paths_of self.now) }

@@ -7,6 +7,7 @@ use std::alloc::AllocError;
 /// A file's path: its names from the application's folder on, joined by `/`.
 pub type FilePath = Text;
 
+/// A file's contents.
 pub type FileBytes = Text;
 
 /// What tells, without a look at the contents, whether a file has changed.
@@ -18,6 +19,7 @@ pub struct Stamp {
     pub time: u64,
 }
 
+/// A file as it was read: its path, its contents and its stamp.
 #[derive(Drop)]
 pub struct FileEntry {
     pub path: FilePath,
@@ -25,8 +27,10 @@ pub struct FileEntry {
     pub stamp: Stamp,
 }
 
+/// Files, each with its contents.
 pub type FileEntries = Listed<FileEntry>;
 
+/// Files without their contents: the path and the stamp of each.
 pub type Stamps = Listed<(FilePath, Stamp)>;
 
 /// The numbers of calls, counted from 1.

@@ -29,6 +29,7 @@ impl Model for MemSink {
 }
 
 impl MemSink {
+    /// A sink to which nothing is written yet. The calls with these numbers, counted from 1, are to fail.
     pub fn new(alloc: Global, fails: CallNumbers) -> MemSink
         ensures { result ≡ record { written = []; starved = false; calls = uncalled fails } }
     {

@@ -33,6 +33,8 @@ impl Model for MemSource {
 }
 
 impl MemSource {
+    /// A source of these bytes, which gives at most `piece` of them, at least 1, at a time.
+    /// The calls with these numbers, counted from 1, are to fail.
     pub fn new(bytes: FileBytes, piece: usize, fails: CallNumbers) -> MemSource
         requires { 1 ≤ piece }
         ensures { result ≡ record { left = bytes; piece = piece; calls = uncalled fails } }

@@ -83,6 +83,7 @@ pub fn copy_stamps(alloc: Global, files: &[FileEntry]) -> Result<Stamps, AllocEr
 }
 
 impl MemTree {
+    /// A tree without files. The calls with these numbers, counted from 1, are to fail.
     pub fn new(alloc: Global, fails: CallNumbers) -> MemTree
         ensures { result ≡ empty_tree fails }
     {

@@ -24,6 +24,7 @@ told_where : {L : Type 0} (kept : List L) (count : ℕ) (test : Bool) → nat_eq
 told_where kept count true is = eqb-true (length kept) count is
 told_where kept count false is = tt
 
+-- a closer that tells its links tells as many as it got
 pub all_told : {L : Type 0} (closer : KeptLinks L) → IfSome (all_kept closer) (λ links. length links ≡ closer.count)
 all_told closer = told_where closer.kept closer.count (nat_eq (length closer.kept) closer.count) refl
 

@@ -4,6 +4,7 @@ use Rattle.outside.specs.Told.{prefixed}
 use Rattle.outside_links.specs.declared.ports.PortAns.{PortAns}
 use Rattle.outside_links.specs.declared.ports.PortAns.TheVariants.{Link, End, Failed}
 
+-- the call counts as a fault
 abbrev pub port_failed : {L : Type 0} → PortAns L → Bool
 port_failed (Link link) = false
 port_failed End = false

@@ -40,6 +40,7 @@ impl Model for DropCloser {
 }
 
 impl DropCloser {
+    /// A closer that got no link yet.
     pub fn new() -> DropCloser
         ensures { result ≡ 0 }
     {
@@ -83,6 +84,8 @@ impl<L> Model for KeepCloser<L> {
 }
 
 impl<L: Drop> KeepCloser<L> {
+    /// A closer that got no link yet, with room for this many, which is taken at once.
+    /// An error where memory runs out.
     pub fn new(alloc: Global, room: u32) -> Result<KeepCloser<L>, AllocError>
         ensures { IfOk result (λ closer. closer ≡ record { kept = []; room = room; count = 0 }) }
     {

@@ -24,6 +24,7 @@ pub trait Gate {
 pub struct OpenGate;
 
 impl OpenGate {
+    /// The gate that does nothing.
     pub fn new() -> OpenGate {
         OpenGate
     }
@@ -52,6 +53,7 @@ pub struct HoldGate {
 }
 
 impl HoldGate {
+    /// A gate of a new state, which no caller has met; an error where memory runs out.
     pub fn new(alloc: Global) -> Result<HoldGate, AllocError> {
         let state = HoldState {
             begun: AtomicU64::new(0),

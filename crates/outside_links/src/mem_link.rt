@@ -48,6 +48,8 @@ impl Model for MemLink {
 }
 
 impl MemLink {
+    /// A link that is to be read as these bytes, at most `piece` of them, at least 1, at a time.
+    /// The calls with these numbers, counted from 1, are to fail.
     pub fn new(alloc: Global, bytes: FileBytes, piece: usize, fails: CallNumbers) -> MemLink
         requires { 1 ≤ piece }
         ensures { result ≡ record {

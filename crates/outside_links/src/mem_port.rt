@@ -42,6 +42,7 @@ impl<L: Link> Model for MemPort<L> {
 }
 
 impl<L: Link> MemPort<L> {
+    /// A port that gives these links in their order. The calls with these numbers, counted from 1, are to fail.
     pub fn new(links: Vec<L>, fails: CallNumbers) -> MemPort<L>
         requires { All (λ link. IsUnused (L.read_faults link) (L.write_faults link) (L.was_read link)
             (L.was_written link)) links.items }

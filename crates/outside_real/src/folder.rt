@@ -18,6 +18,7 @@ pub struct FolderTree<R: Files + AllocGlobal + Drop> {
 }
 
 impl<R: Files + AllocGlobal + Drop> FolderTree<R> {
+    /// The current folder, of which nothing is read yet.
     pub fn new(rt: R) -> FolderTree<R> {
         FolderTree {
             rt,

@@ -28,6 +28,7 @@ pub struct StdinSource<I: Read + Drop> {
 }
 
 impl<I: Read + Drop> StdinSource<I> {
+    /// The input as a source, of which nothing is read yet.
     pub fn new(input: I) -> StdinSource<I> {
         StdinSource { input, faults: 0 }
     }

@@ -40,6 +40,7 @@ fn is_next(files: &[FileEntry], path: &[u8]) -> bool
 }
 
 impl OrderedFiles {
+    /// No files, with room for this many; an error where memory runs out.
     pub fn with_room(alloc: Global, count: usize) -> Result<OrderedFiles, AllocError>
         ensures { IfOk result (λ files. files ≡ []) }
     {
@@ -59,6 +60,7 @@ impl OrderedFiles {
         Ok(())
     }
 
+    /// The files that were added, in the order of their paths.
     pub fn into_vec(self) -> Vec<FileEntry>
         ensures listed { ListsWatched (paths_of result.items) }
         ensures sized { All IsSized result.items }

@@ -11,6 +11,7 @@ pub struct StdoutSink<R: Print + Drop> {
 }
 
 impl<R: Print + Drop> StdoutSink<R> {
+    /// Standard output, to which nothing is written yet.
     pub fn new(rt: R) -> StdoutSink<R> {
         StdoutSink { rt, faults: 0 }
     }

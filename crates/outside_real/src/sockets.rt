@@ -17,6 +17,7 @@ pub struct TcpLink {
 }
 
 impl TcpLink {
+    /// A link over an open connection, without faults.
     pub fn new(stream: TcpStream) -> TcpLink
         ensures reads { result.read_faults ≡ 0 }
         ensures writes { result.write_faults ≡ 0 }

@@ -21,11 +21,13 @@ code_view n = if nat_le 1 n && nat_le n 47 then Some n else None
 abbrev pub left_out_terminal : ℕ → Bool
 left_out_terminal n = (nat_le 18 n && nat_le n 47) || (n == 99)
 
+-- an expression begins with a literal, `self`, a name, a constant, `::`, an instance variable, a bracket, `!` or `-`
 abbrev pub expression_terminal : ℕ → Bool
 expression_terminal n =
     (n == 55) || (n == 56) || (n == 54) || (n == 12) || (n == 13) || (n == 14) || (n == 11) || (n == 0) ||
     (n == 52) || (n == 86) || (n == 51)
     || (n == 93) || (n == 95) || (n == 91) || (n == 72) || (n == 80)
 
+-- a statement begins with `if`, `unless`, `return` or `raise`, or as an expression does
 abbrev pub statement_terminal : ℕ → Bool
 statement_terminal n = expression_terminal n || (n == 10) || (n == 15) || (n == 5) || (n == 8)

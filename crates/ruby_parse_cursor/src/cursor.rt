@@ -95,6 +95,7 @@ fn begins_assign(tokens: &[Token]) -> bool
 }
 
 impl<'a> Cursor<'a> {
+    /// The cursor before the first of the tokens of `bytes`; `words` is the table of the words that are no names.
     pub fn new(bytes: &'a [u8], words: &'a CaseTable<47>, tokens: &'a [Token]) -> Cursor<'a>
         requires words { words.now ≡ word_rows }
         requires numbers { NumbersFit (words_of bytes.now tokens.now) }

@@ -28,6 +28,7 @@ impl<'a> Model for Locals<'a> {
 }
 
 impl<'a> Locals<'a> {
+    /// No variables, which take no memory.
     pub fn new(alloc: Global) -> Locals<'a>
         ensures { result ≡ [] }
     {
@@ -38,6 +39,7 @@ impl<'a> Locals<'a> {
         }
     }
 
+    /// Whether a variable has this name. A look-up, which doesn't scan them.
     pub fn contains(&self, name: &[u8]) -> bool
         ensures { result ≡ has self.now name.now }
     {

@@ -20,82 +20,121 @@ pub const NAME: u16 = 0;
 /// The last code of `ruby_words`. Those of the left-out words end with it.
 const LAST_WORD: u16 = 47;
 
+/// Line ends in a row: LF or `;`.
 pub const LINE: u16 = 50;
 
+/// `User`
 pub const CONST: u16 = 51;
 
+/// `@name`
 pub const IVAR: u16 = 52;
 
+/// `key:`
 pub const LABEL: u16 = 53;
 
+/// `:key`
 pub const SYM: u16 = 54;
 
+/// `-1_000`
 pub const INT: u16 = 55;
 
+/// The quote before a text, `'` or `"`.
 pub const TEXT_OPEN: u16 = 56;
 
+/// Bytes and escapes of a text, as they are written.
 pub const TEXT_PIECE: u16 = 57;
 
+/// `#{`
 pub const INSIDE_OPEN: u16 = 58;
 
+/// The `}` that ends what `#{` began.
 pub const INSIDE_CLOSE: u16 = 59;
 
+/// The quote behind a text.
 pub const TEXT_CLOSE: u16 = 60;
 
+/// `||`
 pub const OR_ELSE: u16 = 70;
 
+/// `&&`
 pub const AND_ALSO: u16 = 71;
 
+/// `!`
 pub const NOT: u16 = 72;
 
+/// `==`
 pub const SAME: u16 = 73;
 
+/// `!=`
 pub const DIFFERS: u16 = 74;
 
+/// `<`
 pub const LESS: u16 = 75;
 
+/// `<=`
 pub const AT_MOST: u16 = 76;
 
+/// `>`
 pub const MORE: u16 = 77;
 
+/// `>=`
 pub const AT_LEAST: u16 = 78;
 
+/// `+`
 pub const PLUS: u16 = 79;
 
+/// `-`
 pub const MINUS: u16 = 80;
 
+/// `*`
 pub const TIMES: u16 = 81;
 
+/// `/`
 pub const DIVIDE: u16 = 82;
 
+/// `%`
 pub const MODULO: u16 = 83;
 
+/// `?`
 pub const ASK: u16 = 84;
 
+/// `:`
 pub const COLON: u16 = 85;
 
+/// `::`
 pub const PATH: u16 = 86;
 
+/// `.`
 pub const DOT: u16 = 87;
 
+/// `,`
 pub const COMMA: u16 = 88;
 
+/// `=`
 pub const ASSIGN: u16 = 89;
 
+/// `=>`
 pub const ARROW: u16 = 90;
 
+/// `(`
 pub const OPEN_PAREN: u16 = 91;
 
+/// `)`
 pub const CLOSE_PAREN: u16 = 92;
 
+/// `[`
 pub const OPEN_BRACKET: u16 = 93;
 
+/// `]`
 pub const CLOSE_BRACKET: u16 = 94;
 
+/// `{`, but not that of `#{`.
 pub const OPEN_BRACE: u16 = 95;
 
+/// `}`, but not that which ends a `#{`.
 pub const CLOSE_BRACE: u16 = 96;
 
+/// `|`
 pub const BAR: u16 = 97;
 
 /// The end of the file.

@@ -36,6 +36,7 @@ pub opened_counted : (v u w : Noted) (names : Path) (a : Act) (at : ℕ) → u �
 opened_counted v u w names a at e c h =
     subst (λ k. (clashes k (counts k.here a at) ≡ false) × Adds k (counts k.here a at) w) e (c, h)
 
+-- a mark that is refused at the body that was opened is refused where it was opened, for the same reason
 pub opened_refused : (v u w : Noted) (names : Path) (a : Act) (at : ℕ) (d : Fault) → u ≡ inside v names →
     Refused u (counts u.here a at) d → Counted v (counts (v.here ++ names) a at) (Err d) w
 opened_refused v u w names a at f.Unexpected e h = absurd h
@@ -65,6 +66,7 @@ pub opened_answer : (v u w : Noted) (names : Path) (a : Act) (at : ℕ) (r : Res
 opened_answer v u w names a at (Ok x) e c h d = opened_counted v u w names a at e c h
 opened_answer v u w names a at (Err k) e c h d = opened_refused v u w names a at k e d
 
+-- where the opening of a body went well, that body is the innermost one
 pub inside_answer : (v u w : Noted) (names : Path) (r : Result (Unit {0}) Fault) → u ≡ inside v names →
     OnOk r (SameBodies u w) → OnOk r (IsInside v names w)
 inside_answer v u w names (Ok x) e s = opened_inside v u w names e s

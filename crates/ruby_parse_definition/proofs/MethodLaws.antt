@@ -46,6 +46,7 @@ inside = call parameters close_then
 abbrev enclosed : Prod ruby some_names
 enclosed = parameters_from 0
 
+-- parameters in parentheses begin with `(`: any other word is unexpected
 pub no_paren : (e : Fault) (ws rest : List Word) → rest ≡ ws → next_is is_open_paren (head ws) ≡ false →
     e ≡ f.Unexpected → Gives {s = some_names} enclosed ws (Err e) rest
 no_paren e ws rest d t u = λ ms. quiet.lacks {s = some_names} is_open_paren (λ _. inside) ms ws rest e d t u
@@ -54,6 +55,7 @@ module _ (ws mid : List Word) (t : next_is is_open_paren (head ws) ≡ true) (d 
   to_inside : (ms : List Mark) → LeadsQuietly {s = some_names} enclosed ms ws inside ms mid
   to_inside ms = quiet.skip {s = some_names} is_open_paren inside ms ws mid t d
 
+  -- behind `(`, a fault of the parameters is the fault of what is in parentheses
   pub enclosed_breaks : (e : Fault) (rest : List Word) → GivesRule {s = some_names} parameters mid (Err e) rest →
       Gives {s = some_names} enclosed ws (Err e) rest
   enclosed_breaks e rest g = λ ms. quiet.stop {s = some_names} _ _ ms ms ws mid rest e (to_inside ms)
@@ -65,6 +67,7 @@ module _ (ws mid : List Word) (t : next_is is_open_paren (head ws) ≡ true) (d 
       to_close ms = quiet.then (to_inside ms)
           (quiet.quietly {s = some_names} {v = some_names} parameters close_then names ms mid behind g)
 
+      -- behind the parameters in parentheses any word but `)` is unexpected
       pub enclosed_lacks_close : (e : Fault) (rest : List Word) → rest ≡ behind →
           next_is is_close_paren (head behind) ≡ false → e ≡ f.Unexpected →
           Gives {s = some_names} enclosed ws (Err e) rest
@@ -76,11 +79,13 @@ module _ (ws mid : List Word) (t : next_is is_open_paren (head ws) ≡ true) (d 
         to_line ms = quiet.then (to_close ms)
             (quiet.skip {s = some_names} is_close_paren (line_then names) ms behind end q k)
 
+        -- behind `)` any word but a Line is unexpected
         pub enclosed_lacks_line : (e : Fault) (rest : List Word) → rest ≡ end →
             next_is is_line (head end) ≡ false → e ≡ f.Unexpected → Gives {s = some_names} enclosed ws (Err e) rest
         enclosed_lacks_line e rest s l u = λ ms. quiet.stop {s = some_names} _ _ ms ms ws end rest e (to_line ms)
             (quiet.lacks {s = some_names} is_line (λ _. give names) ms end rest e s l u)
 
+        -- `(`, parameters, `)` and a Line are the parameters of a method
         pub enclosed_reads : (rest : List Word) → next_is is_line (head end) ≡ true → rest ≡ drop 1 end →
             Gives {s = some_names} enclosed ws (Ok names) rest
         enclosed_reads rest l s = λ ms. quiet.finish {s = some_names} enclosed names ms ms ws rest
@@ -92,23 +97,27 @@ module _ (levels : ℕ) (ws : List Word) where
       ≡ deepen levels parameters_from
   paren_chosen t = cond-false _ _ _ (apart 91 50 ws refl t) ∙ cond-true _ _ _ t
 
+  -- where no level is left, parameters in parentheses are nested too deep
   pub list_deep : (e : Fault) → next_is is_open_paren (head ws) ≡ true → levels ≡ 0 → e ≡ f.Deep →
       GivesRule {s = some_names} (parameter_list levels) ws (Err e) ws
   list_deep e t l u = λ ms. quiet.deep {s = some_names} (parameter_list levels) ms ws e
       (paren_chosen t ∙ ap (λ n. deepen n parameters_from) l) u
 
+  -- at `(`, with a level left, the parameters of a method are those in parentheses
   pub list_enclosed : (inner : ℕ) (r : Result (List Name) Fault) (rest : List Word) →
       next_is is_open_paren (head ws) ≡ true → levels ≡ suc inner → Gives {s = some_names} enclosed ws r rest →
       GivesRule {s = some_names} (parameter_list levels) ws r rest
   list_enclosed inner r rest t l g = g_chosen {s = some_names} (parameter_list levels) (parameters_from inner) ws rest r
       (paren_chosen t ∙ ap (λ n. deepen n parameters_from) l) g
 
+  -- behind a method's name any word but `(` and a Line is unexpected
   pub list_fails : (e : Fault) (rest : List Word) → next_is is_open_paren (head ws) ≡ false →
       rest ≡ ws → next_is is_line (head ws) ≡ false → e ≡ f.Unexpected →
       GivesRule {s = some_names} (parameter_list levels) ws (Err e) rest
   list_fails e rest t d q u = λ ms. quiet.none {s = some_names} (parameter_list levels) ms ws rest e d
       (cond-false _ _ _ q ∙ cond-false _ _ _ t) u
 
+  -- a Line behind a method's name leaves the method without parameters
   pub list_empty : (mid : List Word) (names : List Name) → next_is is_line (head ws) ≡ true → mid ≡ drop 1 ws →
       names ≡ [] → GivesRule {s = some_names} (parameter_list levels) ws (Ok names) mid
   list_empty mid names q d z =
@@ -125,6 +134,7 @@ module _ (levels : ℕ) (v : Noted) (ws : List Word) where
   abbrev list_then : Heading → Prod ruby a_def
   list_then h = call (parameter_list levels) λ names. body_of h names
 
+  -- a method begins with `def`: any other word is unexpected
   pub no_def : (e : Fault) (w : Noted) (rest : List Word) → rest ≡ ws → next_is is_def (head ws) ≡ false →
       e ≡ f.Unexpected → GivesSignature levels v ws (Err e) w rest
   no_def e w rest d t u = lacks {s = a_def} is_def (λ _. call (heading v.here) list_then) v ws rest e d t u
@@ -134,6 +144,7 @@ module _ (levels : ℕ) (v : Noted) (ws : List Word) where
         mid
     to_heading = skip {s = a_def} is_def (call (heading v.here) list_then) v ws mid t d
 
+    -- behind `def`, a fault of the method's name is the signature's fault
     pub heading_breaks : (e : Fault) (w : Noted) (rest : List Word) →
         GivesMarkedRule {s = a_heading} (heading v.here) v mid (Err e) w rest →
         GivesSignature levels v ws (Err e) w rest
@@ -146,6 +157,7 @@ module _ (levels : ℕ) (v : Noted) (ws : List Word) where
       to_list = then to_heading
           (after {s = a_def} {u = a_heading} (heading v.here) list_then (heading_view h) v w mid behind g)
 
+      -- behind the method's name, a fault of the parameters is the signature's fault
       pub list_breaks : (e : Fault) (x : Noted) (rest : List Word) →
           GivesRule {s = some_names} (parameter_list levels) behind (Err e) rest →
           GivesSignature levels v ws (Err e) x rest
@@ -153,6 +165,7 @@ module _ (levels : ℕ) (v : Noted) (ws : List Word) where
           (breaks_quietly {s = a_def} {u = some_names} (parameter_list levels)
           (λ names. body_of (heading_view h) names) w behind rest e l)
 
+      -- `def`, a method's name and its parameters are the signature, behind which the statements come
       pub signature_reads : (names : List Name) (rest : List Word) →
           GivesRule {s = some_names} (parameter_list levels) behind (Ok names) rest →
           GivesSignature levels v ws (Ok (record { heading = h; parameters = names })) w rest
@@ -171,6 +184,7 @@ module _ (levels : ℕ) (sets : Bool) (names known : List Name) (z : known ≡ n
   statements_of r behind rest g =
       subst (λ l. GivesRule {s = a_block} (statements (around levels sets l) []) ws (block_as behind r) rest) z g
 
+  -- a fault in the statements of a method is the fault of its body
   pub statements_break : (e : Fault) (behind : List Name) (rest : List Word) →
       GivesRule {s = a_block} (statements (around levels sets known) []) ws (block_as behind (Err e)) rest →
       GivesStatements (around levels sets names) ws (Err e) rest
@@ -186,11 +200,13 @@ module _ (levels : ℕ) (sets : Bool) (names known : List Name) (z : known ≡ n
     to_last made ms = quiet.quietly {s = a_def} {v = a_block} (statements (around levels sets names) [])
         (λ c. end_then made c.stmts) (block b.statements behind b.closed) ms ws mid (statements_of (Ok b) behind mid g)
 
+    -- behind the statements of a method any word but `end` is unexpected
     pub statements_lack_end : (e : Fault) (rest : List Word) → rest ≡ mid → next_is is_end (head mid) ≡ false →
         e ≡ f.Unexpected → GivesStatements (around levels sets names) ws (Err e) rest
     statements_lack_end e rest s q u = λ made ms. quiet.stop {s = a_def} _ _ ms ms ws mid rest e (to_last made ms)
         (quiet.lacks {s = a_def} is_end (λ _. give (made b.statements)) ms mid rest e s q u)
 
+    -- statements that know the parameters, with `end` behind them, are the body of a method
     pub statements_read : (rest : List Word) → next_is is_end (head mid) ≡ true → rest ≡ drop 1 mid →
         GivesStatements (around levels sets names) ws (Ok b.statements) rest
     statements_read rest q s = λ made ms.
@@ -208,11 +224,13 @@ module _ (levels : ℕ) (v w : Noted) (ws mid : List Word) (m : Signature)
   abbrev made : List Stmt → Def
   made ss = def.Method m.heading.single m.heading.name m.parameters ss
 
+  -- behind the signature, a fault of the statements is the method's fault
   pub method_breaks : (e : Fault) (x : Noted) (rest : List Word) →
       GivesStatements (around levels sets m.parameters) mid (Err e) rest →
       GivesMethod levels v ws (Err e) x rest
   method_breaks e x rest h = stop {s = a_def} _ _ v w ws mid rest e g (λ ms _. body_is (Err e) rest h made ms)
 
+  -- a signature and the statements behind it are a method
   pub method_reads : (ss : List Stmt) (params : List Name) (rest : List Word) → params ≡ m.parameters →
       GivesStatements (around levels sets m.parameters) mid (Ok ss) rest →
       GivesMethod levels v ws (Ok (def.Method m.heading.single m.heading.name params ss)) w rest

@@ -36,6 +36,7 @@ map_last : {A B : Type 0} (g : A → B) (xs : List A) (x : A) → map g (xs ++ x
 map_last g [] x = refl
 map_last g (y ∷ ys) x = ap (λ l. g y ∷ l) (map_last g ys x)
 
+-- a name added behind the parameters in order and before those to be looked up leaves both with the same names
 pub has_same_more : {A : Type 0} (g : A → Name) (xs ys : List A) (x : A) (known longer : List Name) →
     ys ≡ xs ++ x ∷ [] → longer ≡ g x ∷ known → HasSame known (map g xs) → HasSame longer (map g ys)
 has_same_more g xs ys x known longer e l h = λ name.
@@ -57,11 +58,13 @@ module _ (names : List Name) where
     to_name = then (picked {s = some_names} (more_parameters names) (parameter_more names) ms ws (cond-true _ _ _ p))
         (skip {s = some_names} is_comma (token (is_new_parameter names) next_name) ms ws mid p d)
 
+    -- behind a comma any word that can't be a new parameter is unexpected
     pub parameter_lacks : (e : Fault) (rest : List Word) → rest ≡ mid → next_is (is_new_parameter names) (head mid)
         ≡ false → e ≡ f.Unexpected → Stops {s = some_names} (only (more_parameters names)) ms ws e rest
     parameter_lacks e rest s n u = stop {s = some_names} _ _ ms ms ws mid rest e to_name
         (lacks {s = some_names} (is_new_parameter names) next_name ms mid rest e s n u)
 
+    -- behind a comma, a new parameter joins those before it, and the parameters go on
     pub parameter_goes_on : (w : Word) (longer : List Name) (rest : List Word) → mid ≡ w ∷ rest →
         is_new_parameter names w ≡ true → longer ≡ names ++ w.text ∷ [] →
         LeadsQuietly {s = some_names} (only (more_parameters names)) ms ws (only (more_parameters longer)) ms rest
@@ -70,6 +73,7 @@ module _ (names : List Name) where
         (only (more_parameters k)) ms rest) (sym l)
         (word {s = some_names} (is_new_parameter names) next_name w ms mid rest e n))
 
+  -- where no comma follows, the parameters that were read are all
   pub parameters_end : (ms : List Mark) (ws : List Word) → next_is is_comma (head ws) ≡ false →
       LeadsQuietly {s = some_names} (only (more_parameters names)) ms ws (give names) ms ws
   parameters_end ms ws p = picked {s = some_names} (more_parameters names) (give names) ms ws (cond-false _ _ _ p)
@@ -87,6 +91,7 @@ abbrev first_name : Prod ruby some_names
 first_name = token is_variable λ w. only (more_parameters (w.text ∷ []))
 
 module _ (empty : List Name) (z : empty ≡ []) (ws : List Word) where
+  -- a word that can be a parameter is the first one, and the parameters go on behind it
   pub first_reads : (w : Word) (first : List Name) (mid rest : List Word) (r : Result (List Name) Fault) →
       ws ≡ w ∷ mid → is_new_parameter empty w ≡ true → first ≡ empty ++ w.text ∷ [] →
       GivesRule {s = some_names} (more_parameters first) mid r rest →
@@ -100,6 +105,7 @@ module _ (empty : List Name) (z : empty ≡ []) (ws : List Word) where
       (word {s = some_names} is_variable (λ w. only (more_parameters (w.text ∷ []))) w ms ws mid e v))
       (subst (λ k. GivesRule {s = some_names} (more_parameters k) mid r rest) one g)
 
+  -- at a word that can't be a parameter there are none
   pub no_parameters : (rest : List Word) → rest ≡ ws → next_is (is_new_parameter empty) (head ws) ≡ false →
       GivesRule {s = some_names} parameters ws (Ok empty) rest
   no_parameters rest d n =

@@ -147,6 +147,7 @@ module _ (may_go_on : Bool) where
 
   module _ (w : Word) (first : Path) (ws mid : List Word) (e : ws ≡ w ∷ mid) (k : is_const w ≡ true)
       (n : first ≡ w.text ∷ []) where
+    -- a constant and the rest of a path are the path as it is written, which stands where the constant does
     pub path_reads : (path : Path) (rest : List Word) → GivesOpenedRest may_go_on first mid (Ok path) rest →
         GivesWritten may_go_on ws (Ok (record { path = path; at = w.at })) rest
     path_reads path rest g = λ outer act s next ms o t h.
@@ -175,6 +176,7 @@ module _ (may_go_on : Bool) where
             (λ path. next path w.at) ms mid rest _
             (in_rule outer act ms (fault (Twice _) rest) t (by_clash c))
 
+    -- behind a path's first constant, a fault of its rest is the path's fault
     pub path_breaks : (e : Fault) (rest : List Word) → GivesOpenedRest may_go_on first mid (Err e) rest →
         GivesWritten may_go_on ws (Err e) rest
     path_breaks d rest g = λ outer act s next ms t.
@@ -186,6 +188,7 @@ module _ (may_go_on : Bool) where
         (subst (λ l. Stops {s = some_names} (only (opened_path may_go_on (how_of outer act w) l)) ms mid d rest) n
         (g (how_of outer act w) ms)))))
 
+  -- a path begins with a constant: any other word is unexpected
   pub path_lacks : (e : Fault) (ws rest : List Word) → rest ≡ ws → next_is is_const (head ws) ≡ false →
       e ≡ f.Unexpected → GivesWritten may_go_on ws (Err e) rest
   path_lacks e ws rest d t u = λ outer act s next ms _.

@@ -55,6 +55,7 @@ GivesPath act v ws r w rest = (s : Sort) (next : Path → ℕ → Prod ruby s) �
 abbrev pub body_then : Body → (List Def → Def) → Prod ruby a_def
 body_then here made = call (definitions here []) λ ds. token is_end λ _. give (made ds)
 
+-- what was returned is the definitions of a module or class up to its `end`, whatever they make
 abbrev pub GivesBody : Body → Noted → List Word → Result (List Def) Fault → Noted → List Word → Type 0
 GivesBody here v ws r w rest = (made : List Def → Def) →
     GoesOn (body_then here made) (λ (ds : List Def). give (made ds)) v ws r w rest
@@ -65,6 +66,7 @@ GivesModule v ws r w rest = (levels : ℕ) →
     GoesOn (module_from (body 0 false v.here) levels)
     (λ (name : Path). body_then (body levels false (v.here ++ name)) (λ ds. def.Module name ds)) v ws r w rest
 
+-- the same of a class: what was returned is its path and its parent, if it has one
 abbrev pub GivesClass : Noted → List Word → Result (Path × Option ConstRef) Fault → Noted → List Word → Type 0
 GivesClass v ws r w rest = (levels : ℕ) →
     GoesOn (class_from (body 0 false v.here) levels)
@@ -75,6 +77,7 @@ GivesClass v ws r w rest = (levels : ℕ) →
 abbrev pub reader_then : {s : Sort} → Path → (Name → Prod ruby s) → Prod ruby s
 reader_then path next = token is_sym λ w. mark (reader path w) (next (behind_sign w.text))
 
+-- what was returned is the name of a reader that counts, whatever comes behind it
 abbrev pub GivesReader : Path → Noted → List Word → Result Name Fault → Noted → List Word → Type 0
 GivesReader path v ws r w rest = (s : Sort) (next : Name → Prod ruby s) →
     GoesOn (reader_then path next) next v ws r w rest
@@ -83,6 +86,7 @@ GivesReader path v ws r w rest = (s : Sort) (next : Name → Prod ruby s) →
 abbrev pub heading_view : Held → Heading
 heading_view h = record { single = h.single; name = h.name }
 
+-- what was returned of a method's name, with the name as the grammar has it
 abbrev pub heading_as : Result Held Fault → Result Heading Fault
 heading_as (Ok h) = Ok (heading_view h)
 heading_as (Err e) = Err e
@@ -91,6 +95,7 @@ heading_as (Err e) = Err e
 abbrev pub statements_then : Around → (List Stmt → Def) → Prod ruby a_def
 statements_then here made = call (statements here []) λ b. token is_end λ _. give (made b.stmts)
 
+-- what was returned is the statements of a method up to its `end`, whatever they make; they add no marks
 abbrev pub GivesStatements : Around → List Word → Result (List Stmt) Fault → List Word → Type 0
 GivesStatements here ws (Ok ss) rest = (made : List Stmt → Def) (ms : List Mark) (o : Outcome ruby a_def) →
     Comes {s = a_def} (give (made ss)) ms rest o → Comes (statements_then here made) ms ws o
@@ -102,10 +107,12 @@ abbrev pub method_behind : ℕ → Signature → Prod ruby a_def
 method_behind levels m = statements_then (around levels (may_set false (heading_view m.heading)) m.parameters)
     (λ ss. def.Method m.heading.single m.heading.name m.parameters ss)
 
+-- what was returned is the signature of a method, of which the statements come next
 abbrev pub GivesSignature : ℕ → Noted → List Word → Result Signature Fault → Noted → List Word → Type 0
 GivesSignature levels v ws r w rest = GoesOn (method_from (body 0 false v.here) levels)
     (λ (m : Signature). method_behind levels m) v ws r w rest
 
+-- what was returned is what the grammar reads of a method
 abbrev pub GivesMethod : ℕ → Noted → List Word → Result Def Fault → Noted → List Word → Type 0
 GivesMethod levels v ws r w rest = GivesMarked {s = a_def} (method_from (body 0 false v.here) levels) v ws r w rest
 

@@ -34,6 +34,7 @@ impl<'a> Model for Parameters<'a> {
 }
 
 impl<'a> Parameters<'a> {
+    /// No parameters, which take no memory.
     pub fn new(alloc: Global) -> Parameters<'a>
         ensures { result ≡ [] }
     {
@@ -43,6 +44,7 @@ impl<'a> Parameters<'a> {
         }
     }
 
+    /// Whether this is one of the names. A look-up, which doesn't scan them.
     pub fn contains(&self, name: &[u8]) -> bool
         ensures { result ≡ has self.now name.now }
     {
@@ -62,6 +64,7 @@ impl<'a> Parameters<'a> {
         Ok(Parameters { names, known })
     }
 
+    /// The names in text order, each copied; an error where memory runs out.
     pub fn texts(&self, alloc: Global) -> Result<TextList, AllocError>
         ensures { IfOk result (λ texts. texts ≡ self.now) }
     {

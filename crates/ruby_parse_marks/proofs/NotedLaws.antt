@@ -263,6 +263,7 @@ module _ (es : List (Inner × ℕ)) (n : ℕ) (ns : List ℕ) (d : Done) (s : Is
           (ap (λ w. inside w names) q)
 
 -- ---- names one after another
+-- with all names left, the number reached is the one that the names begin at
 pub first_names : (es : List (Inner × ℕ)) (outer : ℕ) (names : List (List ℕ)) →
     Advanced es outer names es outer names
 first_names es outer names = λ h l. record { grown = grown_itself es h; within = l; path = refl }

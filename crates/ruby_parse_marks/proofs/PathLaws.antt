@@ -60,6 +60,7 @@ one_latest a (x ∷ xs) (inl e) = subst (λ y. IsOne a (latest_first xs ++ y ∷
 one_latest a (x ∷ xs) (inr h) = one_before a (latest_first xs) (x ∷ []) (one_latest a xs h)
 
 -- ---- names in paths
+-- numbers of which a test says that they are equal are one
 pub equal_is : (m n : ℕ) → (m == n) ≡ true → m ≡ n
 equal_is m n h = grind (arith, nat_tests)
 
@@ -278,6 +279,7 @@ none_known k (e ∷ es) h = by (same_inner k e.0) refl (λ r. none_known k es r)
     by true q f = absurd (never (subst (λ v. cond v (Some e.1) (lookup (same_inner k) es) ≡ None) q h))
     by false q f = rw q (f (subst (λ v. cond v (Some e.1) (lookup (same_inner k) es) ≡ None) q h))
 
+-- the number that a name has, or gets as the next one, is the number of its path, and older numbers keep theirs
 pub is_number : (es fs : List (Inner × ℕ)) (outer n : ℕ) (name : List ℕ) → AreNumbered (latest_first es) →
     outer ≤ length es → Numbers es outer name n fs → IsNumber es outer (name ∷ []) n fs
 is_number es fs outer n name h l (k, a, b, inl (c, d)) =
@@ -346,9 +348,11 @@ is_top_path rs n h l = by (met rs n h l)
         ∙ no_top (path_at rs e.0.outer) e.0.name.items ∙ sym (more_differs n 0 (omega (arith, s, q.behind)))
 
 -- ---- names one after another
+-- where nothing more is numbered, the numbers keep their paths
 pub grown_itself : (es : List (Inner × ℕ)) → AreNumbered (latest_first es) → Grown es es
 grown_itself es h = record { numbered = h; grows = omega arith; stays = λ m s. refl }
 
+-- what is numbered in two steps after one another keeps the paths of the older numbers
 pub grown_more : (es fs gs : List (Inner × ℕ)) → Grown es fs → Grown fs gs → Grown es gs
 grown_more es fs gs a b = record {
   numbered = b.numbered;

@@ -16,9 +16,11 @@ pub record Done : Type 0 where
   pub parents : List ℕ
   pub methods : List Method
 
+-- nothing is done yet, as at the beginning of a file
 abbrev pub nothing_done : Done
 nothing_done = record { assigned = []; modules = []; classes = []; parents = []; methods = [] }
 
+-- what the table keeps of each kind of act, as lists
 abbrev pub done_of : Deeds → Done
 done_of d = record {
   assigned = d.assigned.keys;
@@ -28,9 +30,11 @@ done_of d = record {
   methods = d.methods.keys;
 }
 
+-- both are the same method: of one body, both singleton methods or neither, and of one name
 abbrev pub same_method : Method → Method → Bool
 same_method a b = (a.body == b.body) && (same_flag a.single b.single && bytes_eq a.name.items b.name.items)
 
+-- this number is among the others
 abbrev pub has_number : List ℕ → ℕ → Bool
 has_number ns n = list_any (λ m. n == m) ns
 
@@ -43,6 +47,7 @@ clashes_at d n act.GivesParent = has_number d.parents n
 clashes_at d n (act.Defines single name) =
     list_any (same_method (record { body = n; single = single; name = name })) d.methods
 
+-- these numbers and this one besides, which stands once
 abbrev pub with_number : List ℕ → ℕ → List ℕ
 with_number ns n = insert_key (λ a b. a == b) ns n
 

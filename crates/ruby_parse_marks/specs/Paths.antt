@@ -6,6 +6,7 @@ use Rattle.std.specs.List.{list_any}
 use Rattle.std.specs.Map.{lookup}
 use Rattle.ruby_parse_marks.specs.declared.paths.Inner.{Inner}
 
+-- a list the other way round: what was added last comes first
 abbrev pub latest_first : {A : Type 0} → List A → List A
 latest_first [] = []
 latest_first (x ∷ xs) = latest_first xs ++ x ∷ []
@@ -14,6 +15,7 @@ latest_first (x ∷ xs) = latest_first xs ++ x ∷ []
 abbrev pub same_inner : Inner → Inner → Bool
 same_inner a b = (a.outer == b.outer) && bytes_eq a.name.items b.name.items
 
+-- the entry is that of this name in this path
 abbrev pub is_inner : Inner → Inner × ℕ → Bool
 is_inner k e = same_inner k e.0
 
@@ -51,6 +53,7 @@ pub record IsNumber (es : List (Inner × ℕ)) (outer : ℕ) (names : List (List
 abbrev pub Reaches : List (Inner × ℕ) → ℕ → List (List ℕ) → ℕ → List (Inner × ℕ) → Type 0
 Reaches es outer names n fs = AreNumbered (latest_first es) → outer ≤ length es → IsNumber es outer names n fs
 
+-- the numbers that there were keep their paths, where all was numbered before: so even where memory ran out
 abbrev pub Keeps : List (Inner × ℕ) → ℕ → List (Inner × ℕ) → Type 0
 Keeps es outer fs = AreNumbered (latest_first es) → outer ≤ length es → Grown es fs
 
@@ -61,5 +64,6 @@ pub record Goes (es : List (Inner × ℕ)) (outer : ℕ) (names : List (List ℕ
   pub within : n ≤ length fs
   pub path : path_at (latest_first fs) n ++ left ≡ path_at (latest_first es) outer ++ names
 
+-- the same as `Goes`, where all was numbered before
 abbrev pub Advanced : List (Inner × ℕ) → ℕ → List (List ℕ) → List (Inner × ℕ) → ℕ → List (List ℕ) → Type 0
 Advanced es outer names fs n left = AreNumbered (latest_first es) → outer ≤ length es → Goes es outer names fs n left

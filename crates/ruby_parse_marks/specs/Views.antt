@@ -8,6 +8,7 @@ use Rattle.ruby_parse_cursor.specs.declared.fault.Fault.TheVariants as f
 use Rattle.ruby_parse_marks.specs.declared.act.Act.{Act as Held}
 use Rattle.ruby_parse_marks.specs.declared.act.Act.TheVariants as held
 
+-- the act that is held, as the grammar has it
 abbrev pub act_view : Held → Act
 act_view held.Assigns = assigns
 act_view held.OpensModule = opens_module
@@ -31,6 +32,7 @@ pub record Noted : Type 0 where
 abbrev pub clashes_with : Mark → Deed → Bool
 clashes_with m d = same_path m.path d.path && acts_clash m.act d.act
 
+-- the mark clashes with some of what is noted
 abbrev pub clashes : Noted → Mark → Bool
 clashes v m = list_any (clashes_with m) v.deeds
 
@@ -63,5 +65,6 @@ abbrev pub outside_of : List (List (List ℕ)) → Noted → Noted
 outside_of [] v = v
 outside_of (p ∷ ps) v = record { here = p; around = ps; deeds = v.deeds }
 
+-- outside the innermost module or class, if one is open: what was done stays noted
 abbrev pub outside : Noted → Noted
 outside v = outside_of v.around v

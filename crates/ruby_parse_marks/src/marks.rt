@@ -57,6 +57,7 @@ fn numbers(
 }
 
 impl Marks {
+    /// At the beginning of a file: nothing is done, and no module and no class is open. It takes no memory.
     pub fn new(alloc: Global) -> Marks
         ensures { result ≡ record { here = []; around = []; deeds = [] } }
     {

@@ -5,6 +5,7 @@ use Rattle.ruby_parse_steps.specs.declared.operators.Level.TheVariants as held
 use Rattle.ruby_grammar.specs.Terminals.{Level, units, products, sums, comparisons, equalities, conjunctions}
 use Rattle.ruby_grammar.specs.Terminals.{disjunctions}
 
+-- the level that is held, as the grammar has it
 abbrev pub level_view : Held → Level
 level_view held.Units = units
 level_view held.Products = products

@@ -15,6 +15,7 @@ use Rattle.ruby_parse_steps.specs.Gives.{Gives, GivesRule}
 abbrev pub opens_bracket : ℕ → Bool
 opens_bracket n = (n == 91) || (n == 93) || (n == 95)
 
+-- a primary that begins so may have expressions inside it: a name, a text, a constant or a bracket
 abbrev pub nests : ℕ → Bool
 nests n = (n == 0) || (n == 56) || (n == 51) || (n == 86) || opens_bracket n
 

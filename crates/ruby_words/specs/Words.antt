@@ -5,6 +5,7 @@
 -- The 30 that it leaves out have 18 to 47.
 use Rattle.std.specs.Prelude.{ℕ, List, [], ◌∷◌, codes}
 
+-- the table of the words, which a look-up by halving searches
 abbrev pub word_rows : List (List ℕ × ℕ)
 word_rows =
     (codes "alias", 18)

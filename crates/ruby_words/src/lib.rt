@@ -9,38 +9,55 @@ ghost use Rattle.ruby_words.specs.Shapes.{is_shape};
 
 use case_table::{Case, CaseTable};
 
+/// The code of `module`.
 pub const MODULE: u16 = 1;
 
+/// The code of `class`.
 pub const CLASS: u16 = 2;
 
+/// The code of `def`.
 pub const DEF: u16 = 3;
 
+/// The code of `end`.
 pub const END: u16 = 4;
 
+/// The code of `if`.
 pub const IF: u16 = 5;
 
+/// The code of `elsif`.
 pub const ELSIF: u16 = 6;
 
+/// The code of `else`.
 pub const ELSE: u16 = 7;
 
+/// The code of `unless`.
 pub const UNLESS: u16 = 8;
 
+/// The code of `then`.
 pub const THEN: u16 = 9;
 
+/// The code of `return`.
 pub const RETURN: u16 = 10;
 
+/// The code of `self`.
 pub const SELF: u16 = 11;
 
+/// The code of `nil`.
 pub const NIL: u16 = 12;
 
+/// The code of `true`.
 pub const TRUE: u16 = 13;
 
+/// The code of `false`.
 pub const FALSE: u16 = 14;
 
+/// The code of `raise`.
 pub const RAISE: u16 = 15;
 
+/// The code of `include`.
 pub const INCLUDE: u16 = 16;
 
+/// The code of `attr_reader`.
 pub const ATTR_READER: u16 = 17;
 
 /// The last code of a reserved word. Those of the left-out words are greater.

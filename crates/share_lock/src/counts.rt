@@ -5,6 +5,7 @@ ghost use Rattle.share_lock.specs.Counted.{count_one};
 
 use crate::seat::{Row, has_bit};
 
+/// `sharing` is the number of rows that hold shares, `lacking[p]` that of rows that wait without the bit p.
 #[derive(Drop)]
 pub struct Counts {
     pub sharing: usize,

@@ -29,6 +29,7 @@ impl Model for Rows {
 }
 
 impl Rows {
+    /// No rows, which take no memory.
     pub fn new(alloc: Global) -> Rows
         ensures { result ≡ [] }
     {
@@ -38,12 +39,14 @@ impl Rows {
         }
     }
 
+    /// The number of seats.
     pub fn len(&self) -> usize
         ensures { result ≡ length self.now }
     {
         self.rows.len()
     }
 
+    /// The row of this seat.
     pub fn at(&self, place: usize) -> &Row
         requires { place < length self.now }
         ensures { slice_get self.now place ≡ Some result.now }
@@ -62,6 +65,7 @@ impl Rows {
         Ok(())
     }
 
+    /// The same rows and counts, copied; an error where memory runs out.
     pub fn copy(&self) -> Result<Rows, AllocError>
         ensures { IfOk result (λ rows. rows ≡ self.now) }
     {

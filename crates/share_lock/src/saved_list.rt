@@ -23,6 +23,7 @@ impl Model for SavedList {
 }
 
 impl SavedList {
+    /// Nothing is put aside.
     pub fn new() -> SavedList
         ensures { result ≡ [] }
     {
@@ -36,12 +37,14 @@ impl SavedList {
         }
     }
 
+    /// The number of open yields.
     pub fn len(&self) -> usize
         ensures { result ≡ length self.now }
     {
         self.count
     }
 
+    /// What the open yield at this place put aside, counted from 0 in the order in which they began.
     pub fn at(&self, place: usize) -> &Saved
         requires { place < length self.now }
         ensures { slice_get self.now place ≡ Some result.now }

@@ -3,6 +3,7 @@ use interlock::Interlock;
 use share_lock::{LockState, Resume, Share, Start, Stop};
 use std::process::Abort;
 
+/// A call of the lock.
 #[derive(Clone, Copy, Debug, PartialEq, Eq)]
 pub enum Call {
     StartRunning,
@@ -25,6 +26,7 @@ pub enum Call {
     TryResume,
 }
 
+/// What a call answers.
 #[derive(Clone, Copy, Debug, PartialEq, Eq)]
 pub enum Answer {
     /// The call's condition doesn't hold.
@@ -44,6 +46,7 @@ pub struct Step {
     pub answer: Answer,
 }
 
+/// Makes the calls in their order and asserts what each answers.
 pub fn play(rt: &impl Abort, lock: &mut LockState, steps: &[Step]) {
     for step in steps {
         let answer = make(lock, step.seat, step.call);

@@ -53,6 +53,7 @@ pub get_is_no_tree : (words : List (List ℕ)) (controller action : List ℕ) �
 get_is_no_tree words controller action get e =
     other_word (codes "get") (codes "tree") (get.0 ∷ []) [] (λ n. absurd (omega (arith, n))) (sym get.1 ∙ e)
 
+-- the word `tree` alone is a command line
 pub tree_is_command : (words : List (List ℕ)) → words ≡ tree_words → IsCommandLine words
 tree_is_command words e = subst IsCommandLine (sym e) (n.Tree, (refl, refl))
 

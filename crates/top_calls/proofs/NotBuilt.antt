@@ -47,6 +47,7 @@ output_is_not_built words files output own (answers controller action out status
 output_is_not_built words files output own (tells out status is answer) e =
     absurd (tree_answer_is_built files out status answer e)
 
+-- where the exit status is 11, what was asked for isn't built yet
 pub not_built_is : (words : List (List ℕ)) (held : Option (List FileEntry)) (status : Outcome)
     (before now : Option (List ℕ)) → WritesOn held (Output words) status before now
     → IfSome held (λ files. code_of status ≡ 11 → IsNotBuilt words files)
@@ -91,6 +92,7 @@ not_built_status words files output own (inr (c, a, g, other))
     (answers controller action out status get (replies reply within readable first)) =
     absurd (readable_is_no_other files within readable other)
 
+-- what isn't built yet ends with status 11, unless with a fault of the tree, of the sink or of memory
 pub is_not_built : (words : List (List ℕ)) (held : Option (List FileEntry)) (status : Outcome)
     (before now : Option (List ℕ)) → WritesOn held (Output words) status before now
     → IfSome held (λ files. IsNotBuilt words files → (code_of status ≡ 11) ⊎ IsFault (code_of status))
@@ -143,6 +145,7 @@ output_is_refused words files output own (answers controller action out status g
 output_is_refused words files output own (tells out status is answer) e =
     (is, tree_answer_is_refused files out status answer e)
 
+-- where the exit status is 6, `tree` was asked for and the application is refused
 pub refused_is : (words : List (List ℕ)) (held : Option (List FileEntry)) (status : Outcome)
     (before now : Option (List ℕ)) → WritesOn held (Output words) status before now
     → IfSome held (λ files. code_of status ≡ 6 → IsTreeRefused words files)
@@ -171,6 +174,7 @@ refused_status words files output own r (answers controller action out status ge
     absurd (get_is_no_tree words controller action get r.0)
 refused_status words files output own r (tells out status is answer) = tree_answer_status files out status r.1 answer
 
+-- `tree` on a refused application ends with status 6, unless with a fault of the tree, the sink or memory
 pub is_refused : (words : List (List ℕ)) (held : Option (List FileEntry)) (status : Outcome)
     (before now : Option (List ℕ)) → WritesOn held (Output words) status before now
     → IfSome held (λ files. IsTreeRefused words files → (code_of status ≡ 6) ⊎ IsFault (code_of status))

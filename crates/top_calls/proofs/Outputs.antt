@@ -54,6 +54,7 @@ reached_after_reading Memory reached = absurd reached
 reached_after_reading Refused reached = tt
 reached_after_reading (NotBuilt what) reached = tt
 
+-- an end that is an answer's own counts no fault of a write, as the sink counted none
 pub no_write_fault : (outcome : Outcome) (before now : ℕ) → IsReached outcome → now ≡ before →
     Counts (code_of outcome == 4) before now
 no_write_fault Done before now reached same = same

@@ -8,6 +8,7 @@ abbrev pub IsFirstTarget : List ℕ → (controller action : List ℕ) → Type 
 IsFirstTarget target controller action = (target ≡ 47 ∷ (controller ++ 47 ∷ action)) × IsLetters controller
     × IsLetters action
 
+-- the byte is another than `/`
 abbrev pub is_no_slash : ℕ → Bool
 is_no_slash byte = not (byte == 47)
 

@@ -17,6 +17,7 @@ IsNumber most word = (n : ℕ) × (1 ≤ n) × (n ≤ most) × (word ≡ decimal
 abbrev pub IsAddress : List ℕ → Type 0
 IsAddress word = word ≢ []
 
+-- the first word of a command
 abbrev pub name_text : CommandName → List ℕ
 name_text Get = codes "get"
 name_text Check = codes "check"
@@ -35,6 +36,7 @@ name_of word =
     if bytes_eq word (codes "demo") then Some Demo else (
     if bytes_eq word (codes "serve") then Some Serve else None)))))
 
+-- the number of connections may be left out, and is at most 1,000,000
 abbrev pub AreConnections : List (List ℕ) → Type 0
 AreConnections [] = ⊤
 AreConnections (number ∷ []) = IsNumber 1000000 number
@@ -78,5 +80,6 @@ abbrev pub IsCommand : CommandName → List (List ℕ) → Type 0
 IsCommand name [] = ⊥
 IsCommand name (first ∷ arguments) = (first ≡ name_text name) × Fits name arguments
 
+-- the words are those of some command
 abbrev pub IsCommandLine : List (List ℕ) → Type 0
 IsCommandLine words = (name : CommandName) × IsCommand name words

@@ -18,6 +18,7 @@ pub struct Case {
 }
 
 impl Case {
+    /// A case of no line yet: it has no name, no words and no files.
     pub fn new(alloc: Global) -> Case {
         Case {
             name: String::new(alloc),
@@ -34,6 +35,7 @@ impl Case {
         self.name.is_empty()
     }
 
+    /// What its line `case` says; empty before that line.
     pub fn name(&self) -> &str {
         self.name.as_str()
     }

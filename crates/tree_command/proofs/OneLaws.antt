@@ -71,6 +71,7 @@ module _ (paths : List (List ℕ)) (lines : List RootLine) (a b : List Root) (fi
       (λ d h. in_from_Contains d first.defaults
       ((first.exact d).1 ((second.exact d).0 (Contains-from_in d second.defaults h))))
 
+  -- files and root lines have one list of roots at most
   pub one_roots : a ≡ b
   one_roots = first.joined
       ∙ ap (λ defaults. map (default_root lines) defaults ++ map line_root (filter (names_none_of defaults) lines))

@@ -8,6 +8,7 @@ use Rattle.app_config.specs.declared.config.Config.{Config}
 use Rattle.app_config.specs.declared.config.ConfigFault.{ConfigFault}
 use Rattle.outside.specs.declared.files.FileEntry.{FileEntry}
 
+-- the file is the configuration, by its path
 abbrev pub is_configuration : FileEntry → Bool
 is_configuration file = bytes_eq file.path configuration_path
 

@@ -15,6 +15,7 @@ pub record IsWithinLimits (files : List FileEntry) : Type 0 where
   pub bytes : total_bytes files ≤ 4194304
   pub paths : All (λ f. length f.path ≤ 255) files
 
+-- the file's path exceeds the limit of 255 bytes
 abbrev pub has_long_path : FileEntry → Bool
 has_long_path file = nat_lt 255 (length file.path)
 

@@ -12,6 +12,7 @@ use Rattle.tree_report.specs.declared.limits.ExceededLimit.{ExceededLimit}
 use Rattle.tree_report.specs.declared.refusal.Refusal.{Refusal}
 use Rattle.tree_report.specs.declared.refusal.Refusal.TheVariants.{Limit, Configuration, BadName, TwoRoots}
 
+-- the word for a limit: the number of files, their bytes, or a path's length
 abbrev pub limit_name : LimitKind → List ℕ
 limit_name Files = codes "files"
 limit_name Bytes = codes "bytes"

@@ -27,6 +27,8 @@ pub struct ListedSite {
 }
 
 impl ListedSite {
+    /// The site of a constant at a place, with the constant's path as text, as `Admin::Post`.
+    /// An error where memory runs out.
     pub fn new(alloc: Global, constant: &CPath, place: Place) -> Result<ListedSite, AllocError>
         ensures { IfOk result (λ site. site ≡ site_of constant.now place) }
     {

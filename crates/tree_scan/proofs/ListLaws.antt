@@ -47,6 +47,7 @@ module _ (roots : List Root) (config : Config) (files : List FileEntry) (place :
 module _ (roots : List Root) (config : Config) (files : List FileEntry) (place : ℕ) (here : FileEntry)
     (stands : slice_get files place ≡ Some here) (spelled : List Spelled)
     (before : ListsBefore roots config files place spelled) where
+  -- where the file at the place spells nothing, the list has what the files up to the next place spell
   pub step_none : ((c : List (List ℕ)) (r : ℕ) → SpelledBy None c r ↔ SpellsConstant roots config here.path c r) →
       ListsBefore roots config files (place + 1) spelled
   step_none told c r f = (
@@ -70,6 +71,7 @@ module _ (roots : List Root) (config : Config) (files : List FileEntry) (place :
   unfolding one
   taken found c r f e = ((ap (λ s. s.constant) e, ap (λ s. s.root) e), ap (λ s. s.file) e)
 
+  -- with the constant of the file at the place added, the list has what the files up to the next place spell
   pub step_some : (found : RootedConstant) →
       ((c : List (List ℕ)) (r : ℕ) → SpelledBy (Some found) c r ↔ SpellsConstant roots config here.path c r) →
       ListsBefore roots config files (place + 1)

@@ -49,6 +49,7 @@ module _ (roots : List Root) (path : List ℕ) where
       omega (arith, p, q)
 
 module _ (roots : List Root) (path : List ℕ) where
+  -- all longest roots above a path have one path
   pub same_path : (m n : ℕ) (a : IsLongestAbove roots path m) (b : IsLongestAbove roots path n) →
       a.root.path ≡ b.root.path
   same_path m n a b =
@@ -56,6 +57,7 @@ module _ (roots : List Root) (path : List ℕ) where
       ∙ ap (above path) (same_length roots path m n a b)
       ∙ at_root b.root.path path b.above.0 b.above.1
 
+  -- below all longest roots above a path stands the same part of it
   pub same_below : (m n : ℕ) (a : IsLongestAbove roots path m) (b : IsLongestAbove roots path n) → a.above.0 ≡ b.above.0
   same_below m n a b =
       sym (below_root a.root.path path a.above.0 a.above.1)

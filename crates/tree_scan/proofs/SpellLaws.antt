@@ -22,19 +22,23 @@ abbrev pub end_of : {roots : List Root} {path : List ℕ} {number : ℕ} → IsL
 end_of l = length l.root.path
 
 module _ (roots : List Root) (config : Config) (path : List ℕ) (number : ℕ) (l : IsLongestAbove roots path number) where
+  -- a longest root's path is what stands before the slash where one ends
   pub root_here : (r : ℕ) (m : IsLongestAbove roots path r) → m.root.path ≡ above path (end_of l)
   root_here r m = same_path roots path r number m l ∙ sym (at_root l.root.path path l.above.0 l.above.1)
 
+  -- what stands below a longest root is what stands behind the slash where one ends
   pub below_here : (r : ℕ) (m : IsLongestAbove roots path r) → m.above.0 ≡ behind path (end_of l)
   below_here r m = same_below roots path r number m l ∙ sym (below_root l.root.path path l.above.0 l.above.1)
 
 module _ (roots : List Root) (config : Config) (path : List ℕ) (number : ℕ) (l : IsLongestAbove roots path number) where
+  -- a path that spells names counts, in terms of what stands around the root's slash
   pub counts_here : (r : ℕ) (names : List (List ℕ)) → SpellsNames roots config path r names →
       Counts config (above path (end_of l)) (behind path (end_of l))
   counts_here r names s =
       subst (λ a. Counts config a (behind path (end_of l))) (root_here roots config path number l r s.longest)
       (subst (λ b. Counts config s.longest.root.path b) (below_here roots config path number l r s.longest) s.counts)
 
+  -- the names that a path spells are those of what stands behind the root's slash
   pub spelled_here : (r : ℕ) (names : List (List ℕ)) → SpellsNames roots config path r names →
       SpellsBelow config (above path (end_of l)) (behind path (end_of l)) names
   spelled_here r names s =
@@ -43,6 +47,7 @@ module _ (roots : List Root) (config : Config) (path : List ℕ) (number : ℕ) 
       (subst (λ b. SpellsBelow config s.longest.root.path b names)
       (below_here roots config path number l r s.longest) s.spelled)
 
+  -- a path that counts spells the names of what stands behind the root's slash
   abbrev pub spells_here : (names : List (List ℕ)) → Counts config (above path (end_of l)) (behind path (end_of l)) →
       SpellsBelow config (above path (end_of l)) (behind path (end_of l)) names →
       SpellsNames roots config path number names
@@ -73,6 +78,7 @@ module _ (roots : List Root) (config : Config) (path : List ℕ) (number : ℕ) 
         ]
       ]
 
+  -- a path whose spelling is found to be at fault has a bad name
   pub bad_told : IsSpelling config (above path (end_of l)) (behind path (end_of l)) BadName →
       HasBadName roots config path
   bad_told is = record {
@@ -90,6 +96,7 @@ module _ (roots : List Root) (config : Config) (path : List ℕ) (number : ℕ) 
       (behind path (end_of l)) names others is.1 (spelled_here roots config path number l r others s)
 
 module _ (roots : List Root) (config : Config) (path : List ℕ) (number : ℕ) (l : IsLongestAbove roots path number) where
+  -- a path that is found to spell constant names has no bad name
   pub no_bad_name : (names : List (List ℕ)) → IsSpelling config (above path (end_of l)) (behind path (end_of l))
       (Names names) → ¬ (HasBadName roots config path)
   no_bad_name names is h =

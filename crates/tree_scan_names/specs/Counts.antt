@@ -29,6 +29,7 @@ IsIgnored config root below = (front : List ℕ) × (IsFrontOf front below) × I
 abbrev pub IsPassed : Config → List ℕ → List ℕ → Type 0
 IsPassed config name place = BeginsWithDot name ⊎ IsNamed config.ignore place
 
+-- the file counts for nothing whatever its ending: it is hidden or ignored
 abbrev pub IsPassedOver : Config → List ℕ → List ℕ → Type 0
 IsPassedOver config root below = IsHidden below ⊎ IsIgnored config root below
 

@@ -12,6 +12,7 @@ use Rattle.tree_scan_names.specs.declared.spelling.Spelling.TheVariants.{Names, 
 abbrev pub above : List ℕ → ℕ → List ℕ
 above path place = take place path
 
+-- what stands behind the slash at this place of the path
 abbrev pub behind : List ℕ → ℕ → List ℕ
 behind path place = drop (place + 1) path
 

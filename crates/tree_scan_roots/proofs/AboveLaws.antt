@@ -56,6 +56,7 @@ module _ (roots : List Root) (numbers : tree.BTreeMap (Vec ℕ) ℕ) (are : IsNu
         (path_contained roots root has))
   ]
 
+  -- where no root above a path goes on behind a place, one that ends there is the longest above it
   pub longest_here : (number : ℕ) → end < length path → AllShorter roots path (end + 1) →
       IsAbove (take end path) path → number_of numbers (take end path) ≡ Some number → IsLongestAbove roots path number
   longest_here number within all above e =
@@ -69,6 +70,7 @@ module _ (roots : List Root) (numbers : tree.BTreeMap (Vec ℕ) ℕ) (are : IsNu
       }
 
 -- ---- an option's cases
+-- where a number is found, it is the one that the look-up gives, and what was known holds
 pub found_is : {A : Type 0} (o p : Option ℕ) → o ≡ p → A → IfSome o (λ n. A × (p ≡ Some n))
 found_is None p e a = tt
 found_is (Some n) p e a = (a, sym e)

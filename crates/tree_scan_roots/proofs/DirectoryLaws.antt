@@ -52,9 +52,11 @@ module _ (path name below : List ℕ) (named : IsName name) (is : path ≡ codes
   joined : path ≡ (codes "app/" ++ name) ++ 47 ∷ below
   joined = is ∙ sym (append_assoc (codes "app/") name (47 ∷ below))
 
+  -- the first bytes of a path below `app/NAME` are that directory's path
   pub top_front : take (length name + 4) path ≡ codes "app/" ++ name
   top_front = rw joined (take_at (codes "app/" ++ name) (47 ∷ below) (length name + 4) (rw length-append (omega arith)))
 
+  -- the directory `app/NAME` is above a path below it
   pub top_above : IsAbove (codes "app/" ++ name) path
   top_above = (below, joined)
 
@@ -64,6 +66,7 @@ module _ (path name below : List ℕ) (named : IsName name) (is : path ≡ codes
   same_cut other rest named' e = cut_once other name rest below named' named
       (append_cancel_left (codes "app/") (other ++ 47 ∷ rest) (name ++ 47 ∷ below) (sym e ∙ is))
 
+  -- the one root directly under `app` above a path is `app/NAME`, and the name is a root's
   pub top_only : (directory : List ℕ) → IsTopRoot directory → IsAbove directory path →
       (directory ≡ codes "app/" ++ name) × IsRootName name
   top_only directory top above =
@@ -79,16 +82,19 @@ module _ (path name below : List ℕ) (named : IsName name) (is : path ≡ codes
       ∙ ap (λ b. codes "app/" ++ b) (sym (append_assoc name (codes "/concerns") (47 ∷ rest)))
       ∙ sym (append_assoc (codes "app/") (name ++ codes "/concerns") (47 ∷ rest))
 
+  -- the first bytes of a path below `app/NAME/concerns` are that directory's path
   pub concerns_front : (rest : List ℕ) → below ≡ codes "concerns/" ++ rest →
       take (length name + 13) path ≡ codes "app/" ++ (name ++ codes "/concerns")
   concerns_front rest e = rw (concerns_joined rest e)
       (take_at (codes "app/" ++ (name ++ codes "/concerns")) (47 ∷ rest) (length name + 13)
       (rw (length-append, length-append) (omega arith)))
 
+  -- the directory `app/NAME/concerns` is above a path below it
   pub concerns_above : (rest : List ℕ) → below ≡ codes "concerns/" ++ rest →
       IsAbove (codes "app/" ++ (name ++ codes "/concerns")) path
   concerns_above rest e = (rest, concerns_joined rest e)
 
+  -- the one `app/*/concerns` that can be above a path has the path's name under `app`, and the path goes on so
   pub concerns_only : (directory : List ℕ) → IsConcerns directory → IsAbove directory path →
       (directory ≡ codes "app/" ++ (name ++ codes "/concerns"))
       × ((rest : List ℕ) × (below ≡ codes "concerns/" ++ rest))
@@ -102,6 +108,7 @@ module _ (path name below : List ℕ) (named : IsName name) (is : path ≡ codes
       let same = same_cut other (codes "concerns/" ++ rest) concerns.1 e in
       (concerns.2 ∙ ap (λ n. codes "app/" ++ (n ++ codes "/concerns")) same.0, (rest, sym same.1))
 
+  -- where the name is a root's, `app/NAME` is the one root directly under `app` above the path
   pub top_is : IsRootName name → (directory : List ℕ) →
       (Some (take (length name + 4) path) ≡ Some directory) ↔ (IsTopRoot directory × IsAbove directory path)
   top_is root directory = (
@@ -111,10 +118,12 @@ module _ (path name below : List ℕ) (named : IsName name) (is : path ≡ codes
     (λ h. ap (λ d. Some d) (top_front ∙ sym (top_only directory h.0 h.1).0)),
   )
 
+  -- where the name is no root's, no root directly under `app` is above the path
   pub top_isnt : (IsRootName name → ⊥) → (directory : List ℕ) →
       (None ≡ Some directory) ↔ (IsTopRoot directory × IsAbove directory path)
   top_isnt other directory = ((λ e. cc), (λ h. absurd (other (top_only directory h.0 h.1).1)))
 
+  -- where the path goes on with `concerns/`, `app/NAME/concerns` is the one of its kind above the path
   pub concerns_is : (rest : List ℕ) × (below ≡ codes "concerns/" ++ rest) → (directory : List ℕ) →
       (Some (take (length name + 13) path) ≡ Some directory) ↔ (IsConcerns directory × IsAbove directory path)
   concerns_is begins directory = (
@@ -125,6 +134,7 @@ module _ (path name below : List ℕ) (named : IsName name) (is : path ≡ codes
     (λ h. ap (λ d. Some d) (concerns_front begins.0 begins.1 ∙ sym (concerns_only directory h.0 h.1).0)),
   )
 
+  -- where the path doesn't go on with `concerns/`, no `app/*/concerns` is above it
   pub concerns_isnt : ((rest : List ℕ) × (below ≡ codes "concerns/" ++ rest) → ⊥) → (directory : List ℕ) →
       (None ≡ Some directory) ↔ (IsConcerns directory × IsAbove directory path)
   concerns_isnt other directory = ((λ e. cc), (λ h. absurd (other (concerns_only directory h.0 h.1).1)))
@@ -162,6 +172,7 @@ both_added old mid new top concerns T C above first second one two = (
 )
 
 -- ---- one path more
+-- a directory that exists with one path more existed before, or is above that path
 pub exists_cases : (paths : List (List ℕ)) (path directory : List ℕ) → Exists (paths ++ path ∷ []) directory →
     Exists paths directory ⊎ IsAbove directory path
 exists_cases paths path directory has = elim (Contains-push_cases paths path has.1 (has.0, has.2, has.3)) [

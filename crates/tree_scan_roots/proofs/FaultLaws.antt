@@ -12,23 +12,28 @@ module _ (lines : List RootLine) (path : List ℕ) (two : IsTwoRoots lines path)
   named_is : named lines ≡ named two.before ++ two.line.path ∷ named two.behind
   named_is = ap named two.split ∙ map-append (λ line. line.path) two.before (two.line ∷ two.behind)
 
+  -- the line at fault is one of the root lines
   pub within : length (named two.before) < length (named lines)
   within = rw named_is (rw length-append (omega arith))
 
+  -- the line at fault names the path of the fault
   pub here : (d : List ℕ) → get_or (named lines) (length (named two.before)) d ≡ path
   here d = ap (λ paths. get_or paths (length (named two.before)) d) named_is
       ∙ get_or_at (named two.before) two.line.path (named two.behind) d (length (named two.before)) refl ∙ two.names
 
+  -- a line before the one at fault names the path too
   pub earlier : get_or (named lines) two.again.0 path ≡ path
   earlier = ap (λ paths. get_or paths two.again.0 path) named_is
       ∙ get_or_append_left (named two.before) (two.line.path ∷ named two.behind) path two.again.0 two.again.1
       ∙ two.again.2
 
+  -- up to the line at fault the paths are those of the lines before it
   pub before_is : (k : ℕ) (d : List ℕ) → k < length (named two.before) →
       get_or (named lines) k d ≡ get_or (named two.before) k d
   before_is k d lt = ap (λ paths. get_or paths k d) named_is
       ∙ get_or_append_left (named two.before) (two.line.path ∷ named two.behind) d k lt
 
+  -- root lines that name each path once have no fault
   pub no_fault : NamesOnce lines → ⊥
   no_fault once = once two.again.0 (length (named two.before)) path two.again.1 within (earlier ∙ sym (here path))
 

@@ -52,6 +52,7 @@ by_bytes f g bs w here other cs =
     (cases_Bool (bytes_eq bs cs))
 
 module _ (bs : List ℕ) where
+  -- an update at one path changes the number of that path alone
   pub number_update : (m n : tree.BTreeMap (Vec ℕ) ℕ) (w : Option ℕ) →
       tree.UpdatesBy key_order (λ k. order bs k.items) m n w → (cs : List ℕ) →
       number_of n cs ≡ cond (bytes_eq bs cs) w (number_of m cs)
@@ -88,6 +89,7 @@ module _ (bs : List ℕ) where
       )
 
 -- ---- keys in order
+-- the paths of keys in order rise
 pub keys_rise : (keys : List (Vec ℕ)) → IsStrictlySortedBy key_order keys → Rising (map (λ k. k.items) keys)
 keys_rise [] h = λ i j d lt within. absurd (omega arith)
 keys_rise (key ∷ keys) h =
@@ -97,6 +99,7 @@ keys_rise (key ∷ keys) h =
     (keys_rise keys (sorted_tail key_order key keys h))
 
 -- ---- places in a list with one item more
+-- what stands at a place still does with more members behind it
 pub get_left : {X : Type 0} (xs ys : List X) (n : ℕ) (x : X) → slice_get xs n ≡ Some x → slice_get (xs ++ ys) n ≡ Some x
 get_left [] ys n x e = cc
 get_left (y ∷ xs) ys zero x e = e
@@ -140,20 +143,25 @@ lacks (Some x) h = absurd (h x refl)
 
 -- ---- numbers
 module _ (paths : List (List ℕ)) (numbers : tree.BTreeMap (Vec ℕ) ℕ) (are : IsNumbering paths numbers) where
+  -- a path without a number is not among the numbered paths
   pub no_number : (path : List ℕ) → number_of numbers path ≡ None → Contains paths path → ⊥
   no_number path none has =
       let some : number_of numbers path ≡ Some has.0 = (are path has.0).1 (got_contains paths path has) in
       let z : None ≡ Some has.0 = sym none ∙ some in cc
 
+  -- a path with a number is among the numbered paths
   pub numbered : (path : List ℕ) (number : ℕ) → number_of numbers path ≡ Some number → Contains paths path
   numbered path number e = contains_got paths number path ((are path number).0 e)
 
+  -- a path of which a look-up finds some number is among the numbered paths
   pub has_number : (path : List ℕ) → is_some (number_of numbers path) ≡ true → Contains paths path
   has_number path is = let some = some_is (number_of numbers path) is in numbered path some.0 some.1
 
+  -- a path that isn't among the numbered paths has no number
   pub lacks_number : (path : List ℕ) → (Contains paths path → ⊥) → number_of numbers path ≡ None
   lacks_number path none = lacks (number_of numbers path) (λ n e. none (numbered path n e))
 
+  -- no two numbered paths are the same
   pub distinct : AllPairs (λ a b. a ≢ b) paths
   distinct i j d lt within e =
       let first : number_of numbers (get_or paths i d) ≡ Some i =
@@ -198,5 +206,6 @@ module _ (paths : List (List ℕ)) (numbers : tree.BTreeMap (Vec ℕ) ℕ) (are 
       | inr h ↦ at_path other h.1 ∙ ap (λ m. Some m) (last ∙ sym h.0)
     ]
 
+    -- a path without a number that gets the next one is numbered behind the others
     pub numbered_more : IsNumbering (paths ++ path ∷ []) new
     numbered_more other n = (there other n, back other n)

@@ -73,9 +73,11 @@ module _ (lines : List RootLine) (numbers : tree.BTreeMap (Vec ℕ) ℕ) (are : 
   got : slice_get (named lines) number ≡ Some path
   got = (are path number).0 e
 
+  -- the number of a path is the place of a root line
   pub line_within : number < length lines
   line_within = let h = slice_get_within (named lines) number path got in simp length-map at h
 
+  -- the namespace of a path is that of the root line with the path's number
   pub namespace_numbered : (d : RootLine) → namespace_of lines path ≡ (get_or lines number d).namespace
   namespace_numbered d =
       let names : (get_or lines number d).path ≡ path =
@@ -85,6 +87,7 @@ module _ (lines : List RootLine) (numbers : tree.BTreeMap (Vec ℕ) ℕ) (are : 
       (slice_get-get_or lines number d line_within) names
 
 -- ---- default roots
+-- the default roots of directories have the paths of the directories
 pub default_paths : (lines : List RootLine) (directories : List (List ℕ)) →
     root_paths (map (default_root lines) directories) ≡ directories
 default_paths lines [] = refl
@@ -133,6 +136,7 @@ some_of_is : (directories : List (List ℕ)) (line : RootLine) → Contains dire
 some_of_is directories line has = ap not (list_any-from_Contains nat_list_eq_equiv line.path directories has)
 
 module _ (defaults : List Root) (lines : List RootLine) where
+  -- the default roots, and then the roots of those of the first lines that name none of them
   abbrev pub with_lines : ℕ → List Root
   with_lines i = defaults ++ map line_root (filter (names_none_of (root_paths defaults)) (take i lines))
 
@@ -150,6 +154,7 @@ module _ (defaults : List Root) (lines : List RootLine) where
         ∙ same
         ∙ sym (get_or-map (λ l. l.path) lines i d e.path within))
 
+    -- a line that names none of these roots adds its own root
     pub line_added : (Contains (root_paths (with_lines i)) (get_or lines i d).path → ⊥) →
         with_lines (i + 1) ≡ with_lines i ++ line_root (get_or lines i d) ∷ []
     line_added none =
@@ -169,6 +174,7 @@ module _ (defaults : List Root) (lines : List RootLine) where
         ∙ sym (append_assoc defaults (map line_root (filter (names_none_of (root_paths defaults)) (take i lines)))
         (line_root (get_or lines i d) ∷ []))
 
+    -- where each line names another path, a line that names one of these roots adds none
     pub line_passed : NamesOnce lines → Contains (root_paths (with_lines i)) (get_or lines i d).path →
         with_lines (i + 1) ≡ with_lines i
     line_passed once has =
@@ -204,6 +210,7 @@ root_is path namespace line p n = rw (p, n) refl
 module _ (defaults : List Root) (lines : List RootLine) (i : ℕ) (line : RootLine) (within : i < length lines)
     (is : line ≡ get_or lines i line)
     (roots : List Root) (so_far : roots ≡ with_lines defaults lines i) where
+  -- a line that names none of the roots so far adds its own, and the roots are those up to the next line
   pub added_next : (next : List Root) (root : Root) → (Contains (root_paths roots) line.path → ⊥) →
       next ≡ roots ++ root ∷ [] → root ≡ line_root line → next ≡ with_lines defaults lines (i + 1)
   added_next next root none added same =
@@ -216,6 +223,7 @@ module _ (defaults : List Root) (lines : List RootLine) (i : ℕ) (line : RootLi
       ∙ ap (λ l. with_lines defaults lines i ++ line_root l ∷ []) is
       ∙ sym (line_added defaults lines i line within none')
 
+  -- a line that names one of the roots so far adds none, and the roots are those up to the next line
   pub passed_next : NamesOnce lines → Contains (root_paths roots) line.path → roots ≡ with_lines defaults lines (i + 1)
   passed_next once has =
       let has' = subst (λ (l : RootLine). Contains (root_paths (with_lines defaults lines i)) l.path) is
@@ -223,6 +231,7 @@ module _ (defaults : List Root) (lines : List RootLine) (i : ℕ) (line : RootLi
       so_far ∙ sym (line_passed defaults lines i line within once has')
 
 -- ---- the fault
+-- the first line whose path an earlier line names is the fault of root lines
 pub two_roots : (lines : List RootLine) (place : ℕ) (d : RootLine) (path : List ℕ) → place < length lines →
     (get_or lines place d).path ≡ path
     → NamesOnce (take place lines) → Contains (named (take place lines)) path → IsTwoRoots lines path

@@ -13,6 +13,7 @@ use Rattle.tree_scan_roots.specs.declared.roots.RootsFault.TheVariants.{TwoRoots
 abbrev pub named : List RootLine → List (List ℕ)
 named lines = map (λ line. line.path) lines
 
+-- the paths of roots, in their order
 abbrev pub root_paths : List Root → List (List ℕ)
 root_paths roots = map (λ root. root.path) roots
 
@@ -21,9 +22,11 @@ abbrev pub namespace_of : (lines : List RootLine) → (path : List ℕ) → List
 namespace_of [] path = []
 namespace_of (line ∷ rest) path = if bytes_eq line.path path then line.namespace else namespace_of rest path
 
+-- the root at this directory, with the namespace that a root line gives it
 abbrev pub default_root : (lines : List RootLine) → (directory : List ℕ) → Root
 default_root lines directory = record { path = directory; namespace = namespace_of lines directory }
 
+-- the root that a root line names
 abbrev pub line_root : RootLine → Root
 line_root line = record { path = line.path; namespace = line.namespace }
 

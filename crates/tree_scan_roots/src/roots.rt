@@ -13,6 +13,7 @@ pub struct Root {
     pub namespace: CPath,
 }
 
+/// Roots in root order: the default roots in the order of their bytes, then those that root lines add.
 pub type Roots = Listed<Root>;
 
 /// Why there are no roots.

@@ -85,6 +85,7 @@ impl RootTable {
         collect_roots(alloc, files, lines)
     }
 
+    /// The roots in root order. No two have the same path.
     pub fn roots(&self) -> &[Root]
         ensures roots { result.now ≡ self.now }
         ensures distinct { AllPairs (λ a b. a ≢ b) (root_paths self.now) }

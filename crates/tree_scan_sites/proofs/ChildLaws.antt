@@ -11,6 +11,7 @@ use Rattle.tree_scan_sites.proofs.MemberLaws.{In, in_front, in_behind, in_append
 use Rattle.tree_scan_sites.proofs.ReachLaws.{parent, Climbs}
 
 -- ---- the names behind a front
+-- of a path with one name more than the front, the last name stands behind the front
 pub last_here : (n : ℕ) (p : List (List ℕ)) (last : List ℕ) → n + 1 ≡ length p → last ≡ get_or p n last →
     last_behind n p ≡ last ∷ []
 last_here n [] last e is = absurd (omega (arith, e))

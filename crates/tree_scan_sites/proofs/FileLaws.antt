@@ -23,6 +23,7 @@ use Rattle.tree_scan_sites.proofs.MemberLaws.{rises_weaker, rises_from_AllPairs,
 use Rattle.tree_scan_sites.proofs.ReachLaws.{NotBehind}
 
 -- ---- spellings in order
+-- the order of spellings is total, so that they can be sorted
 pub spelled_total : IsTotalOrder spelled_order
 spelled_total = then_total (on_total (λ s. s.constant) path_order_total)
     (then_total (on_total (λ s. s.root) nat_cmp_total) (on_total (λ s. s.file) nat_cmp_total))
@@ -80,6 +81,7 @@ no_later s t same h =
     level) ∙ h)
 
 -- ---- the first file
+-- that a file spells a constant below a root, as it is listed
 abbrev pub spelling : List (List ℕ) → ℕ → ℕ → Spelled
 spelling c root file = record { constant = c; root = root; file = file }
 
@@ -144,6 +146,7 @@ first_none c (s ∷ spelled) e t h same =
     ]
 
 -- ---- the file of a constant
+-- two files of one constant are the same, since neither comes after the other
 pub one_file : (P : List (List ℕ) → ℕ → ℕ → Type 0) (c : List (List ℕ)) (f g : ℕ) → IsFileOf P c f → IsFileOf P c g →
     f ≡ g
 one_file P c f g h k = same_file h.0 k.0 f g (h.2 k.0 g k.1) (k.2 h.0 f h.1)
@@ -241,11 +244,13 @@ module _ (c : List (List ℕ)) (spelled : List Spelled) (place : ℕ) (s : Spell
       (first_file c (drop (place + 1) spelled))
   first_step front = skipped c spelled place front ∙ ap (first_file c) rest_at
 
+  -- where all before a place come before a path and a spelling of the path stands there, its file is the first
   pub first_found : AllWithin (λ t. comes_before c t ≡ true) spelled 0 place → path_order s.constant c ≡ Equal →
       first_file c spelled ≡ Some s.file
   first_found front e = first_step front
       ∙ ap (λ o. cond (is_eq o) (Some s.file) (first_file c (drop (place + 1) spelled))) e
 
+  -- where all before a place come before a path and what stands there comes after it, no file spells the path
   pub first_missing : IsSorted spelled_order spelled → AllWithin (λ t. comes_before c t ≡ true) spelled 0 place →
       path_order s.constant c ≡ Greater → first_file c spelled ≡ None
   first_missing sorted front g =
@@ -255,6 +260,7 @@ module _ (c : List (List ℕ)) (spelled : List Spelled) (place : ℕ) (s : Spell
       ∙ (ap (λ o. cond (is_eq o) (Some s.file) (first_file c (drop (place + 1) spelled))) g
       ∙ none_behind c s (drop (place + 1) spelled) g rise.0)
 
+  -- what stands at a place from which on nothing comes before a path doesn't come before it
   pub first_not_before : AllWithin (λ t. comes_before c t ≡ false) spelled place (length spelled) →
       path_order s.constant c ≡ Less → ⊥
   first_not_before back e =
@@ -262,6 +268,7 @@ module _ (c : List (List ℕ)) (spelled : List Spelled) (place : ℕ) (s : Spell
       let here : comes_before c s ≡ false = ap (comes_before c) is ∙ at in
       false≢true (sym here ∙ ap is_lt e)
 
+  -- where a path is parted at a place and what stands there is no spelling of it, no file spells the path
   pub first_other : IsSorted spelled_order spelled → AllWithin (λ t. comes_before c t ≡ true) spelled 0 place →
       AllWithin (λ t. comes_before c t ≡ false) spelled place (length spelled) →
       is_eq (path_order s.constant c) ≡ false → first_file c spelled ≡ None

@@ -59,6 +59,7 @@ mapped_in f y (x ∷ xs) h = elim h [
 ]
 
 -- ---- what holds of each member
+-- it holds of each member of a list, said by recursion for proofs by induction
 abbrev pub Each : {X : Type 0} → (X → Type 0) → List X → Type 0
 Each P [] = Unit {0}
 Each P (x ∷ xs) = P x × Each P xs
@@ -79,6 +80,7 @@ All-from_each P [] h = All-nil P
 All-from_each P (x ∷ xs) h = All-cons P x xs h.0 (All-from_each P xs h.1)
 
 -- ---- each member before all later ones
+-- it holds of each member and all later ones, said by recursion for proofs by induction
 abbrev pub Rises : {X : Type 0} → (X → X → Type 0) → List X → Type 0
 Rises R [] = Unit {0}
 Rises R (x ∷ xs) = Each (R x) xs × Rises R xs

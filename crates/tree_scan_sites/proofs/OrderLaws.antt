@@ -13,6 +13,7 @@ use Rattle.outside.specs.Order.{order}
 use Rattle.tree_scan_sites.specs.Paths.{path_order, name_eq}
 
 -- ---- the laws of the order
+-- the order of constant paths is total, so that they can be sorted and found by halving
 pub path_order_total : IsTotalOrder path_order
 path_order_total = lists_total nat_list_cmp_total
 
@@ -75,6 +76,7 @@ at_most_before a b c h k = elim h [
 ]
 
 -- ---- equal names
+-- names of which the test says that they have the same bytes are one
 pub name_eq-true : (a b : List ℕ) → name_eq a b ≡ true → a ≡ b
 name_eq-true a b h = (bytes_decides a b).0 h
 

@@ -17,6 +17,7 @@ use Rattle.tree_scan_sites.proofs.MemberLaws.{In, in_front, in_behind, in_append
 use Rattle.tree_scan_sites.proofs.MemberLaws.{of_each, Rises, rises_append}
 
 -- ---- the beginnings with more names than some number
+-- the first beginning with more names than some number has one name more, and the others more still
 pub longer_more : (n : ℕ) (c : List (List ℕ)) → n < length c → longer n c ≡ take (suc n) c ∷ longer (suc n) c
 longer_more n [] lt = absurd (omega (arith, lt))
 longer_more zero (x ∷ c) lt = refl
@@ -258,6 +259,7 @@ paths_rise previous (s ∷ spelled) rise =
     (all_behind s.constant spelled rise.0 rise.1 q b))
 
 -- ---- each path's parent is a beginning of the path before
+-- a constant path without its last name
 abbrev pub parent : List (List ℕ) → List (List ℕ)
 parent [] = []
 parent (name ∷ []) = []

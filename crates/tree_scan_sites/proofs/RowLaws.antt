@@ -87,6 +87,7 @@ module _ (spelled : List Spelled) (rise : Rises NotAfter spelled) where
   abbrev all : List (List (List ℕ))
   all = paths_from [] spelled
 
+  -- the table's paths rise
   pub all_rise : Rises IsBeforePath all
   all_rise = paths_rise [] spelled (constants_rise spelled rise)
 
@@ -98,13 +99,16 @@ module _ (spelled : List Spelled) (rise : Rises NotAfter spelled) where
       least [] = refl
       least (x ∷ c) = refl
 
+  -- each of the table's paths is at most one level deeper than the one before it
   pub all_climb : Climbs [] all
   all_climb = paths_climb [] spelled (none_least spelled) (constants_rise spelled rise)
 
+  -- Object's path comes before all of the table's paths
   pub above_all : Each (IsBeforePath []) all
   above_all = each_of (IsBeforePath []) all
       (λ q h. all_behind [] spelled (none_least spelled) (constants_rise spelled rise) q h)
 
+  -- each row says of its path what it is to say, in terms of all paths
   pub rows_are : Each (IsRow spelled all) (rows_of spelled all)
   rows_are = are_rows spelled [] all all all_climb all_rise (λ q h. h) (λ q h. inl h)
 
@@ -159,6 +163,7 @@ module _ (spelled : List Spelled) (rise : Rises NotAfter spelled) where
     named (Some file) true e z = (file_from_first spelled rise row.path file e, no_namespace z)
     named (Some file) false e z = (file_from_first spelled rise row.path file e, has_namespace z)
 
+    -- a row's site is the site of its path
     pub row_site : IsSite (Lists spelled) row.path row.site
     row_site =
         let b = (reached_by [] spelled row.path r.reached).2 in
@@ -174,6 +179,7 @@ module _ (spelled : List Spelled) (rise : Rises NotAfter spelled) where
       let s = spelling (name ∷ names) h.0 file in
       reached spelled s name names [] (in_from_Contains s spelled h.1) (sym (append-nil (name ∷ names)))
 
+  -- each constant that has a site is among the table's paths
   pub site_reached : (c : List (List ℕ)) (site : Site) → IsSite (Lists spelled) c site → In c all
   site_reached [] site h = absurd h
   site_reached (name ∷ names) (File file) h = file_reached name names file h.0
@@ -183,10 +189,12 @@ module _ (spelled : List Spelled) (rise : Rises NotAfter spelled) where
       let s = spelling ((name ∷ names) ++ n.0 ∷ n.1) n.2 n.3 in
       reached spelled s name names (n.0 ∷ n.1) (in_from_Contains s spelled n.4) refl
 
+  -- each of the table's paths has a row
   pub row_for : (q : List (List ℕ)) → In q all → (row : SiteRow) × (row.path ≡ q) × In row (rows_of spelled all)
   row_for q h = mapped_in (λ row. row.path) q (rows_of spelled all)
       (subst (In q) (sym (paths_of_rows-rows_of spelled all)) h)
 
+  -- each of the table's paths is that of a constant that has a site
   pub site_for : (q : List (List ℕ)) → In q all → (site : Site) × IsSite (Lists spelled) q site
   site_for q h =
       let found = row_for q h in (
@@ -207,9 +215,11 @@ module _ (spelled : List Spelled) (rise : Rises NotAfter spelled) where
     rising = AllPairs-from_rises IsBefore names up;
   }
 
+  -- a row's children are those of its path
   pub row_children : (row : SiteRow) → IsRow spelled all row → ListsChildren (Lists spelled) row.path row.children
   row_children row r = children_by row.path row.children r.child r.whole r.rising
 
+  -- the children of Object are the names of the paths with one name
   pub top_children : ListsChildren (Lists spelled) [] (children_run 0 all)
   top_children =
       let names : children_run 0 all ≡ begun [] all = begun_by_length [] [] all refl all_climb above_all in
@@ -217,6 +227,7 @@ module _ (spelled : List Spelled) (rise : Rises NotAfter spelled) where
       (λ n h. subst (In n) (sym names) (in_child [] n all above_all all_rise h))
       (subst (Rises IsBefore) (sym names) (begun_rise [] all all_rise))
 
+  -- a constant that isn't among the table's paths has no children
   pub no_children : (c : List (List ℕ)) → (c ≡ [] → ⊥) → (In c all → ⊥) → ListsChildren (Lists spelled) c []
   no_children [] some none = absurd (some refl)
   no_children (x ∷ c) some none = children_by (x ∷ c) [] (λ n h. absurd h)

@@ -10,6 +10,7 @@ use Rattle.tree_scan_sites.specs.Listed.{Lists}
 use Rattle.tree_scan_sites.proofs.FileLaws.{one_file}
 
 -- ---- a constant has one file and one site at most
+-- a constant has one file at most
 pub one_file_of : (P : List (List ℕ) → ℕ → ℕ → Type 0) (c : List (List ℕ)) (f g : ℕ) → IsFileOf P c f →
     IsFileOf P c g → f ≡ g
 one_file_of P c f g h k = one_file P c f g h k
@@ -33,6 +34,7 @@ one_site P [] s t h k = absurd h
 one_site P (name ∷ names) s t h k = one_named P (name ∷ names) s t h k
 
 -- ---- relations that hold of the same spellings
+-- both relations hold of the same constants, roots and files
 abbrev pub SameSpellings : (P Q : List (List ℕ) → ℕ → ℕ → Type 0) → Type 0
 SameSpellings P Q = (c : List (List ℕ)) (root file : ℕ) → P c root file ↔ Q c root file
 
@@ -41,9 +43,11 @@ pub same_back : (P Q : List (List ℕ) → ℕ → ℕ → Type 0) → SameSpell
 same_back P Q same c root file = ((same c root file).1, (same c root file).0)
 
 module _ (P Q : List (List ℕ) → ℕ → ℕ → Type 0) (same : SameSpellings P Q) where
+  -- where the same is spelled, a constant has the same file
   pub same_file_of : (c : List (List ℕ)) (file : ℕ) → IsFileOf P c file → IsFileOf Q c file
   same_file_of c file h = (h.0, (same c h.0 file).0 h.1, λ root other k. h.2 root other ((same c root other).1 k))
 
+  -- where the same is spelled, the same constants are namespaces
   pub same_namespace : (c : List (List ℕ)) → IsNamespace P c → IsNamespace Q c
   same_namespace c h = (h.0, h.1, h.2, h.3, (same (c ++ h.0 ∷ h.1) h.2 h.3).0 h.4)
 
@@ -51,6 +55,7 @@ module _ (P Q : List (List ℕ) → ℕ → ℕ → Type 0) (same : SameSpelling
   abbrev back : SameSpellings Q P
   back = same_back P Q same
 
+  -- where the same is spelled, the same files are shadowed
   pub same_shadowed : (file : ℕ) → IsShadowed P file → IsShadowed Q file
   same_shadowed file h = (h.0, h.1, (same h.0 h.1 file).0 h.2, λ k. h.3 (same_file_of Q P back h.0 file k))
 
@@ -59,10 +64,12 @@ module _ (P Q : List (List ℕ) → ℕ → ℕ → Type 0) (same : SameSpelling
   same_named c (Explicit file) h = (same_file_of P Q same c file h.0, same_namespace P Q same c h.1)
   same_named c Namespace h = (same_namespace P Q same c h.0, λ file k. h.1 file (same_file_of Q P back c file k))
 
+  -- where the same is spelled, a constant has the same site
   pub same_site : (c : List (List ℕ)) (s : Site) → IsSite P c s → IsSite Q c s
   same_site [] s h = h
   same_site (name ∷ names) s h = same_named (name ∷ names) s h
 
+  -- where the same is spelled, a constant has the same children
   pub same_child : (c : List (List ℕ)) (name : List ℕ) → IsChild P c name → IsChild Q c name
   same_child c name h = (h.0, same_site (c ++ name ∷ []) h.0 h.1)
 

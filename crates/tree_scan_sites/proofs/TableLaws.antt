@@ -117,9 +117,11 @@ same_answers files hidden same file = same_tests (list_any (nat_eq file) files) 
 -- ---- a table
 module _ {spelled : List Spelled} {rows : List SiteRow} {tops nothing : List (List ℕ)} {files : List ℕ}
     (t : IsTable spelled rows tops nothing files) where
+  -- the spellings that a table keeps rise
   pub spelled_rise : Rises NotAfter spelled
   spelled_rise = in_order_rise spelled t.sorted
 
+  -- the files that a table keeps as shadowed are the shadowed ones, and all of them
   pub shadowed_exact : (file : ℕ) → Contains files file ↔ IsShadowed (Lists spelled) file
   shadowed_exact file = (
     λ h. shadowed_from_hidden spelled spelled_rise file
@@ -130,14 +132,17 @@ module _ {spelled : List Spelled} {rows : List SiteRow} {tops nothing : List (Li
         (Contains-from_in file (hidden_files spelled spelled) (hidden_from_shadowed spelled spelled_rise file h))),
   )
 
+  -- each row that a table keeps says of its path what it is to say
   pub are_rows : Each (IsRow spelled (paths_from [] spelled)) rows
   are_rows = subst (Each (IsRow spelled (paths_from [] spelled))) (sym t.rows) (rows_are spelled spelled_rise)
 
+  -- each row that a table keeps has the site of its path
   pub all_sites : All (λ row. IsSite (Lists spelled) row.path row.site) rows
   all_sites = All-from_each (λ row. IsSite (Lists spelled) row.path row.site) rows
       (each_weaker (IsRow spelled (paths_from [] spelled)) (λ row. IsSite (Lists spelled) row.path row.site)
       (λ row r. row_site spelled spelled_rise row r) rows are_rows)
 
+  -- each row that a table keeps has the children of its path
   pub all_children : All (λ row. ListsChildren (Lists spelled) row.path row.children) rows
   all_children = All-from_each (λ row. ListsChildren (Lists spelled) row.path row.children) rows
       (each_weaker (IsRow spelled (paths_from [] spelled))
@@ -150,10 +155,12 @@ module _ {spelled : List Spelled} {rows : List SiteRow} {tops nothing : List (Li
   in_rows : (path : List (List ℕ)) (site : Site) → IsSite (Lists spelled) path site → In path (paths_of_rows rows)
   in_rows path site h = subst (In path) (sym paths_are) (site_reached spelled spelled_rise path site h)
 
+  -- each constant that has a site has a row in the table
   pub all_listed : (path : List (List ℕ)) (site : Site) → IsSite (Lists spelled) path site →
       Contains (paths_of_rows rows) path
   all_listed path site h = Contains-from_in path (paths_of_rows rows) (in_rows path site h)
 
+  -- the rows that a table keeps rise by their paths, so a path is found by halving
   pub rows_rise : AllPairs (λ row later. IsBeforePath row.path later.path) rows
   rows_rise = AllPairs-from_rises (λ row later. IsBeforePath row.path later.path) rows
       (rises_of rows (subst (Rises IsBeforePath) (sym paths_are) (all_rise spelled spelled_rise)))
@@ -168,11 +175,13 @@ module _ {spelled : List Spelled} {rows : List SiteRow} {tops nothing : List (Li
       rises_of [] h = tt
       rises_of (r ∷ rs) h = (each_of_paths r.path rs h.0, rises_of rs h.1)
 
+  -- the first file that is found in the table's spellings is the constant's file
   pub found_file : (path : List (List ℕ)) (first : Option ℕ) → first ≡ first_file path spelled →
       IfSome first (IsFileOf (Lists spelled) path)
   found_file path None e = tt
   found_file path (Some file) e = file_from_first spelled spelled_rise path file (sym e)
 
+  -- where none is found in the table's spellings, the constant has no file
   pub no_file : (path : List (List ℕ)) (first : Option ℕ) → first ≡ first_file path spelled →
       IfNone first ((file : ℕ) → IsFileOf (Lists spelled) path file → ⊥)
   no_file path None e = λ file h. none_from_first spelled path (sym e) h.0 file h.1
@@ -188,10 +197,12 @@ module _ {spelled : List Spelled} {rows : List SiteRow} {tops nothing : List (Li
     the_row = of_each (IsRow spelled (paths_from [] spelled)) rows row are_rows
         (in_from_Contains row rows (place, within, sym at))
 
+    -- the row that a search finds has the site of the path
     pub found_site : IsSite (Lists spelled) path row.site
     found_site = subst (λ (p : List (List ℕ)). IsSite (Lists spelled) p row.site) has_path
         (row_site spelled spelled_rise row the_row)
 
+    -- the row that a search finds has the children of the path
     pub found_children : ListsChildren (Lists spelled) path row.children
     found_children = subst (λ (p : List (List ℕ)). ListsChildren (Lists spelled) p row.children) has_path
         (row_children spelled spelled_rise row the_row)
@@ -223,13 +234,16 @@ module _ {spelled : List Spelled} {rows : List SiteRow} {tops nothing : List (Li
         lt_or zero (suc n) = inl (omega arith)
         lt_or (suc k) (suc n) = elim (lt_or k n) [ inl a ↦ inl (omega (arith, a)) | inr a ↦ inr (omega (arith, a)) ]
 
+    -- a path of which a search finds no row has no site
     pub missing_site : (site : Site) → IsSite (Lists spelled) path site → ⊥
     missing_site site h = no_row (in_rows path site h)
 
+    -- a constant with a name, of whose path a search finds no row, has no children
     pub missing_children : (path ≡ [] → ⊥) → ListsChildren (Lists spelled) path nothing
     missing_children some = subst (ListsChildren (Lists spelled) path) (sym t.none)
         (no_children spelled spelled_rise path some (λ h. no_row (subst (In path) (sym paths_are) h)))
 
+  -- the children that the table keeps for the empty path are those of Object
   pub tops_are : (path : List (List ℕ)) → path ≡ [] → ListsChildren (Lists spelled) path tops
   tops_are path e = subst (λ (p : List (List ℕ)). ListsChildren (Lists spelled) p tops) (sym e)
       (subst (ListsChildren (Lists spelled) []) (sym t.top) (top_children spelled spelled_rise))

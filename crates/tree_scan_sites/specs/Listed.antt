@@ -24,6 +24,7 @@ abbrev pub first_file : List (List ℕ) → List Spelled → Option ℕ
 first_file path [] = None
 first_file path (s ∷ spelled) = cond (is_eq (path_order s.constant path)) (Some s.file) (first_file path spelled)
 
+-- a first file was found, and it is this one
 abbrev pub is_file : Option ℕ → ℕ → Bool
 is_file None file = false
 is_file (Some first) file = nat_eq first file
@@ -32,5 +33,6 @@ is_file (Some first) file = nat_eq first file
 abbrev pub hidden_file : (all : List Spelled) → Spelled → List ℕ
 hidden_file all s = cond (is_file (first_file s.constant all) s.file) [] (s.file ∷ [])
 
+-- the files of these spellings that aren't the first among all to spell their constant
 abbrev pub hidden_files : (all spelled : List Spelled) → List ℕ
 hidden_files all spelled = flat_map (hidden_file all) spelled

@@ -13,6 +13,7 @@ path_order a b = slice_cmp order a b
 abbrev pub IsBeforePath : List (List ℕ) → List (List ℕ) → Type 0
 IsBeforePath a b = path_order a b ≡ Less
 
+-- both names have the same bytes
 abbrev pub name_eq : List ℕ → List ℕ → Bool
 name_eq a b = pointwise nat_eq a b
 

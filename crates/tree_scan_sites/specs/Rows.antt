@@ -7,6 +7,7 @@ use Rattle.tree_scan_sites.specs.declared.spelled.Site.{Site}
 use Rattle.tree_scan_sites.specs.declared.spelled.Site.TheVariants.{File, Explicit, Namespace}
 use Rattle.tree_scan_sites.specs.Listed.{first_file}
 
+-- the paths of the rows, in their order
 abbrev pub paths_of_rows : List SiteRow → List (List (List ℕ))
 paths_of_rows rows = map (λ row. row.path) rows
 
@@ -22,6 +23,7 @@ abbrev pub children_run : ℕ → List (List (List ℕ)) → List (List ℕ)
 children_run n [] = []
 children_run n (path ∷ paths) = cond (nat_lt n (length path)) (last_behind n path ++ children_run n paths) []
 
+-- the site of a constant by its file, if it has one, and by whether it stands alone, without children
 abbrev pub site_of : Option ℕ → (alone : Bool) → Site
 site_of None alone = Namespace
 site_of (Some file) true = File file
@@ -33,6 +35,7 @@ row_of spelled path behind =
     let children = children_run (length path) behind in
     record { path = path; site = site_of (first_file path spelled) (length children == 0); children = children }
 
+-- the row of each path, in the order of the paths
 abbrev pub rows_of : List Spelled → List (List (List ℕ)) → List SiteRow
 rows_of spelled [] = []
 rows_of spelled (path ∷ paths) = row_of spelled path paths ∷ rows_of spelled paths

@@ -8,6 +8,7 @@ use lib.ListN.{get_elem?}
 use Rattle.atomic_table.proofs.Lists.{at_set}
 use Rattle.turn_lock.specs.Rule.{total, count_some, count_true}
 
+-- a counter of 64 bits that wraps has the next number modulo 2 ^ 64 after each step
 pub mod_step : (n : ℕ) → (n % 18446744073709551616 + 1) % 18446744073709551616 ≡ (n + 1) % 18446744073709551616
 mod_step n =
     let q : ℕ = n / 18446744073709551616 in

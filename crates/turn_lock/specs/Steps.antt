@@ -19,6 +19,7 @@ abbrev pub seen_held : {B E : Type 0} → (B → List E) → List E → List (�
 seen_held history seen ((k, Some b) ∷ xs) = history b
 seen_held history seen _ = seen
 
+-- the seat's row in the value that it has in its hand; where it has none there, the row that it had
 abbrev pub row_held : {B W : Type 0} → (B → ℕ → W) → ℕ → W → List (ℕ × Option B) → W
 row_held rows number row ((k, Some b) ∷ xs) = rows b number
 row_held rows number row _ = row

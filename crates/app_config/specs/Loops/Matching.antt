@@ -2,6 +2,7 @@
 use Rattle.std.specs.Prelude.{ℕ, Bool, true, false, List, [], ◌∷◌, ◌==◌, ◌||◌, ◌&&◌, if◌then◌else◌, Option, Some, None}
 use Rattle.app_config.specs.Text.{split}
 
+-- nothing is left, as where a segment ends with the pattern
 abbrev pub is_empty : List ℕ → Bool
 is_empty [] = true
 is_empty (_ ∷ _) = false
@@ -17,6 +18,7 @@ behind [] segment = Some segment
 behind (byte ∷ piece) [] = None
 behind (byte ∷ piece) (first ∷ rest) = if first == byte then behind piece rest else None
 
+-- the first of two answers that found something
 abbrev pub first_of : Option (List ℕ) → Option (List ℕ) → Option (List ℕ)
 first_of (Some found) other = Some found
 first_of None other = other
@@ -26,6 +28,7 @@ abbrev pub behind_first : List ℕ → List ℕ → Option (List ℕ)
 behind_first piece [] = behind piece []
 behind_first piece (first ∷ rest) = first_of (behind piece (first ∷ rest)) (behind_first piece rest)
 
+-- something was found, and what was found passes the test
 abbrev pub passes : (List ℕ → Bool) → Option (List ℕ) → Bool
 passes test None = false
 passes test (Some rest) = test rest

@@ -19,18 +19,23 @@ use Rattle.lists.specs.declared.listed.Listed.TheView.{view, invariant}
 use Rattle.lists.specs.contracts.listed.Listed as C
 use Rattle.lists.specs.contracts.listed.Listed.TheInside as I
 
+-- a `Listed` holds a list of what its members hold
 abbrev pub the_former : Former {0} → Former {0}
 the_former g = list g
 
+-- a `Listed` weighs what a list of its members does: recursion into the members falls by it
 abbrev pub the_weighed : {g : Former {0}} → Weighed g → Weighed (the_former g)
 the_weighed w = w_list w
 
+-- the value of a `Listed` that holds nothing
 pub the_empty : List ⊥
 the_empty = []
 
+-- the members of a `Listed`, from its first one on
 abbrev pub the_items : (X : Type 0) → List X → List X
 the_items X d = d
 
+-- what a `Listed` holds is its members, in their order
 pub the_items_listed : (X : Type 0) (d : List X) → listed _ (children (the_former this) X d) ≡ the_items X d
 the_items_listed X d = list-listed X d
 
@@ -39,6 +44,7 @@ fields = via (vec.the_former this Global) Inside (λ X a. a.items) (λ X v. reco
     (λ X v. refl)
 
 module _ (R S : RattleType) (h : R.Denot → S.Denot) where
+  -- members that lie alike in memory make a `Listed` that lies alike
   pub the_places : Alike R S h → Alike (C.the_row R) (C.the_row S) ((the_former this).map R.Denot S.Denot h)
   the_places a = view_places fields (list this) view (λ X Y k u. refl) (λ X u. refl) R.Denot S.Denot h
       (C.the_row R).coded (C.the_row S).coded
@@ -47,5 +53,6 @@ module _ (R S : RattleType) (h : R.Denot → S.Denot) where
       (struct_places (I.the_type R) (I.the_type S) (vec.mapped h, tt) _ (λ d. refl) refl
       (laid _ _ _ (vec.the_places heap.the_row ghosts R S h a), tt))
 
+  -- members with the same codes make a `Listed` with the same code
   pub the_codes_placed : Recodes R S h → Recodes (C.the_row R) (C.the_row S) ((the_former this).map R.Denot S.Denot h)
   the_codes_placed e d = sym (code_map R.coded.code S.coded.code h (λ x. sym (e x)) d)

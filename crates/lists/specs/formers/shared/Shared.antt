@@ -22,9 +22,11 @@ use Rattle.lists.specs.declared.shared.Shared.TheView.{view, invariant}
 use Rattle.lists.specs.contracts.shared.Shared as C
 use Rattle.lists.specs.contracts.shared.Shared.TheInside as I
 
+-- a `Shared` holds what its one value holds
 abbrev pub the_former : Former {0} → Former {0}
 the_former g = g
 
+-- a `Shared` weighs what its value does: recursion into the value falls by it
 abbrev pub the_weighed : {g : Former {0}} → Weighed g → Weighed (the_former g)
 the_weighed w = w
 
@@ -49,6 +51,7 @@ module _ (R S : RattleType) (h : R.Denot → S.Denot) where
         (with_value b tt);
   }
 
+  -- values that lie alike in memory make a `Shared` that lies alike
   pub the_places : Alike R S h → Alike (C.the_row R) (C.the_row S) ((the_former this).map R.Denot S.Denot h)
   the_places a = view_places fields this view (λ X Y k u. refl) (λ X u. refl) R.Denot S.Denot h (C.the_row R).coded
       (C.the_row S).coded
@@ -57,5 +60,6 @@ module _ (R S : RattleType) (h : R.Denot → S.Denot) where
       (struct_places (I.the_type R) (I.the_type S) ((λ b. with_value b (h b.value)), tt) _ (λ d. refl) refl
       (laid _ _ _ (box_places a), tt))
 
+  -- values with the same codes make a `Shared` with the same code
   pub the_codes_placed : Recodes R S h → Recodes (C.the_row R) (C.the_row S) ((the_former this).map R.Denot S.Denot h)
   the_codes_placed e d = e d

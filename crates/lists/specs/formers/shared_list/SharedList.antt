@@ -25,18 +25,23 @@ use Rattle.lists.specs.declared.shared_list.SharedList.TheView.{view, invariant}
 use Rattle.lists.specs.contracts.shared_list.SharedList as C
 use Rattle.lists.specs.contracts.shared_list.SharedList.TheInside as I
 
+-- a `SharedList` holds a list of what its members hold
 abbrev pub the_former : Former {0} → Former {0}
 the_former g = list g
 
+-- a `SharedList` weighs what a list of its members does: recursion into the members falls by it
 abbrev pub the_weighed : {g : Former {0}} → Weighed g → Weighed (the_former g)
 the_weighed w = w_list w
 
+-- the value of a `SharedList` that holds nothing
 pub the_empty : List ⊥
 the_empty = []
 
+-- the members of a `SharedList`, from its first one on
 abbrev pub the_items : (X : Type 0) → List X → List X
 the_items X d = d
 
+-- what a `SharedList` holds is its members, in their order
 pub the_items_listed : (X : Type 0) (d : List X) → listed _ (children (the_former this) X d) ≡ the_items X d
 the_items_listed X d = list-listed X d
 
@@ -110,6 +115,7 @@ module _ (R S : RattleType) (h : R.Denot → S.Denot) where
         ),
       )
 
+  -- members that lie alike in memory make a `SharedList` that lies alike
   pub the_places : Alike R S h → Alike (C.the_row R) (C.the_row S) ((the_former this).map R.Denot S.Denot h)
   the_places a = view_places fields (list this) view (λ X Y k u. natural X Y k u.alloc u.held)
       (λ X u. keeps X u.alloc u.held) R.Denot S.Denot h (C.the_row R).coded (C.the_row S).coded
@@ -119,5 +125,6 @@ module _ (R S : RattleType) (h : R.Denot → S.Denot) where
       (λ d i. (is_mapped R.Denot S.Denot h d.alloc d.held i, (d.alloc, tt))) refl
       (laid _ _ _ (held_places a), (stays heap.the_row, tt)))
 
+  -- members with the same codes make a `SharedList` with the same code
   pub the_codes_placed : Recodes R S h → Recodes (C.the_row R) (C.the_row S) ((the_former this).map R.Denot S.Denot h)
   the_codes_placed e d = sym (code_map R.coded.code S.coded.code h (λ x. sym (e x)) d)
