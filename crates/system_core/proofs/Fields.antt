@@ -1,12 +1,10 @@
 -- The fields after an event.
 use Rattle.std.proofs.Common.{◌≡◌, ℕ, zero, suc, ◌+◌, ◌<◌, ◌≤◌, List, [], ◌∷◌, ◌++◌, length, length-append}
 use Rattle.std.proofs.Common.{append_assoc}
-use Rattle.std.proofs.Common.{append-nil, Option, Some, None, Bool, true, false, not, cond, nat_lt, is_some, slice_get}
+use Rattle.std.proofs.Common.{Option, Some, None, true, false, not, cond, nat_lt, is_some, slice_get}
 use Rattle.std.proofs.Common.{refl, sym}
 use Rattle.std.proofs.Common.{ap, ◌∙◌, subst, arith}
-use Rattle.std.proofs.lemmas.Bool.{true≢false, ltb-true, not-false}
-use Rattle.std.proofs.lemmas.Option.{none-some}
-use Rattle.system_seats.specs.declared.guard.Guard.{Guard}
+use Rattle.std.proofs.lemmas.Bool.{ltb-true, not-false}
 use Rattle.system_seats.specs.Seats.{Seats, seats_at_rest}
 use Rattle.system_seats.specs.Guards.{reload_guard}
 use Rattle.system_seats.proofs.From.{guard_false}
@@ -24,7 +22,7 @@ use Rattle.system_events.specs.Guards.{guard_of, reload_limits, request_limits}
 use Rattle.system_events.specs.Steps.{effect, seats_after, counts_after, table_after, pair_of, kept_of, value_of}
 use Rattle.system_events.specs.Steps.{IsKnown}
 use Rattle.system_events.specs.Steps.{Condition}
-use Rattle.system_events.specs.Legal.{opening, start, IsStep, IsAfter}
+use Rattle.system_events.specs.Legal.{opening, start, IsAfter}
 use Rattle.system_laws.proofs.Tidy.{second_none}
 use Rattle.system_laws.proofs.Keeps.{after-push}
 use Rattle.system_core.specs.declared.fact.Fact.{Fact}
@@ -99,11 +97,11 @@ module _ {M T V P Q R F : Type 0} (f : Facts T V P Q R F) where
   table_define : (es : List (Entry M T V P Q R F)) (k : ℕ) (fs : List (Fact M T V P Q R F)) (program : P) (task : T)
       (value : V) → IsPlaced es fs → f.known program task ≡ Some value →
       table_of (es ++ (record { seat = k; kept = Define task }) ∷ []) (fs ++ new_fact (length es) (Some value))
-        ≡ table_of es fs ++ pair_of task (f.known program task)
+      ≡ table_of es fs ++ pair_of task (f.known program task)
   table_define es k fs program task value placed known =
       let e : Entry M T V P Q R F = record { seat = k; kept = Define task } in
       let new : table_of (es ++ e ∷ []) (new_fact (length es) (Some value)) ≡ (task, value) ∷ [] =
-          ap (λ o. with_value value (entry_task o) ++ []) (get_new es e) in
+      ap (λ o. with_value value (entry_task o) ++ []) (get_new es e) in
       table-append (es ++ e ∷ []) fs (new_fact (length es) (Some value))
       ∙ ((λ i. table-push es e fs placed i ++ new i) ∙ ap (λ o. table_of es fs ++ pair_of task o) (sym known))
 
@@ -111,8 +109,8 @@ module _ {M T V P Q R F : Type 0} (f : Facts T V P Q R F) where
   pub table_step : (es : List (Entry M T V P Q R F)) (seats : Seats) (k : ℕ) (fs : List (Fact M T V P Q R F))
       (c : Counts M T V P Q R F) (act : Act M T V P Q R F) → IsPlaced es fs → IsKnown f (state_of es seats fs c) act →
       table_of (es ++ (record { seat = k; kept = kept_of act }) ∷ [])
-        (facts_after fs (kept_of act) (value_of act) (length es))
-        ≡ table_after f c.program (table_of es fs) (kept_of act)
+      (facts_after fs (kept_of act) (value_of act) (length es))
+      ≡ table_after f c.program (table_of es fs) (kept_of act)
   table_step es seats k fs c (Act-Define task value) placed known =
       table_define es k fs c.program task value placed known
   table_step es seats k fs c (Act-Reload program) placed known = refl
@@ -134,7 +132,7 @@ module _ {M T V P Q R F : Type 0} (f : Facts T V P Q R F) where
   hashes_define : (es : List (Entry M T V P Q R F)) (k : ℕ) (fs : List (Fact M T V P Q R F)) (task : T)
       (o : Option V) → IsPlaced es fs →
       hashes_of f (es ++ (record { seat = k; kept = Define task }) ∷ []) (fs ++ new_fact (length es) o)
-        ≡ hashes_of f es fs ++ new_hash f task o
+      ≡ hashes_of f es fs ++ new_hash f task o
   hashes_define es k fs task None placed =
       let e : Entry M T V P Q R F = record { seat = k; kept = Define task } in
       hashes-append (es ++ e ∷ []) fs [] ∙ ap (λ hs. hs ++ []) (hashes-push es e fs placed)
@@ -147,7 +145,7 @@ module _ {M T V P Q R F : Type 0} (f : Facts T V P Q R F) where
   pub hashes_step : (es : List (Entry M T V P Q R F)) (k : ℕ) (fs : List (Fact M T V P Q R F))
       (kept : Kept M T V P Q R F) (value : Option V) → IsPlaced es fs →
       hashes_of f (es ++ (record { seat = k; kept = kept }) ∷ []) (facts_after fs kept value (length es))
-        ≡ hashes_after f (hashes_of f es fs) kept value
+      ≡ hashes_after f (hashes_of f es fs) kept value
   hashes_step es k fs (Define task) value placed = hashes_define es k fs task value placed
   hashes_step es k fs (Reload program) value placed = refl
   hashes_step es k fs _ value placed = hashes-push es _ fs placed
@@ -178,7 +176,7 @@ module _ {M T V P Q R F : Type 0} (f : Facts T V P Q R F) where
       guard_of f s k kept ≡ None → CountsFit (counts_after f s.counts kept)
   fit_after s k (Reload program) fit p =
       let few : s.counts.generation < 4096 =
-          few_reloads s.counts program (second_none (reload_guard s.seats k) _ p) in
+      few_reloads s.counts program (second_none (reload_guard s.seats k) _ p) in
       (omega (arith, few), fit.1)
   fit_after s k (Begin request) fit p = more_requests s.counts fit (few_requests s.counts (second_none _ _ p))
   fit_after s k (Refuse cause) fit p = fit_refuse s k cause fit p
@@ -213,17 +211,19 @@ module _ {M T V P Q R F : Type 0} (f : Facts T V P Q R F) where
         seats = is_seats i;
         table = table_of (is_es i) (is_fs i);
         counts = is_c i;
-      } in
-      (record {
-        placed = subst (IsPlaced es) (sym is_fs) tt;
-        hashed = is_hs ∙ ap (hashes_of f es) (sym is_fs);
-        fit = subst CountsFit (sym is_c) (omega arith, omega arith);
-        number = n;
-        after = subst (IsAfter f n) (sym same) (record {
-          legal = record { entries = []; opens = refl; steps = tt };
-          state = refl;
-        });
-      }, same)
+      } in (
+        record {
+          placed = subst (IsPlaced es) (sym is_fs) tt;
+          hashed = is_hs ∙ ap (hashes_of f es) (sym is_fs);
+          fit = subst CountsFit (sym is_c) (omega arith, omega arith);
+          number = n;
+          after = subst (IsAfter f n) (sym same) (record {
+            legal = record { entries = []; opens = refl; steps = tt };
+            state = refl;
+          });
+        },
+        same,
+      )
 
   -- the fields after an event whose guards pass
   pub kept_after : (es es' : List (Entry M T V P Q R F)) (seats seats' : Seats) (fs fs' : List (Fact M T V P Q R F))
@@ -244,30 +244,32 @@ module _ {M T V P Q R F : Type 0} (f : Facts T V P Q R F) where
       let e : Entry M T V P Q R F = record { seat = k; kept = new } in
       let entries : es' ≡ es ++ e ∷ [] = is_es ∙ ap (λ x. es ++ (record { seat = k; kept = x }) ∷ []) is_kept in
       let moved : seats' ≡ seats_after seats (length es) k new =
-          is_seats ∙ (λ i. seats_after seats (is_place i) k (is_kept i)) in
+      is_seats ∙ (λ i. seats_after seats (is_place i) k (is_kept i)) in
       let facts : fs' ≡ facts_after fs new (value_of act) (length es) =
-          is_fs ∙ (λ i. facts_after fs (is_kept i) (is_value i) (is_place i)) in
+      is_fs ∙ (λ i. facts_after fs (is_kept i) (is_value i) (is_place i)) in
       let counted : c' ≡ counts_after f c new = is_c ∙ ap (counts_after f c) is_kept in
       let hashed : hs' ≡ hashes_of f es' fs' =
-          is_hs ∙ ((λ i. hashes_after f (is.hashed i) (is_kept i) (is_value i))
-          ∙ (sym (hashes_step f es k fs new (value_of act) is.placed)
-          ∙ (λ i. hashes_of f (sym entries i) (sym facts i)))) in
+      is_hs ∙ ((λ i. hashes_after f (is.hashed i) (is_kept i) (is_value i))
+      ∙ (sym (hashes_step f es k fs new (value_of act) is.placed)
+      ∙ (λ i. hashes_of f (sym entries i) (sym facts i)))) in
       let tables : table_of es' fs' ≡ table_after f c.program (table_of es fs) new =
-          (λ i. table_of (entries i) (facts i))
-          ∙ table_step f es seats k fs c act is.placed (subst (λ x. IsKnown f x act) back known) in
+      (λ i. table_of (entries i) (facts i))
+      ∙ table_step f es seats k fs c act is.placed (subst (λ x. IsKnown f x act) back known) in
       let same : state_of es' seats' fs' c' ≡ effect f s k new =
-          λ i. record { history = entries i; seats = moved i; table = tables i; counts = counted i } in
-      let passes : guard_of f s k new ≡ None = subst (λ x. guard_of f x k new ≡ None) back passed in
-      (record {
-        placed = subst (λ x. IsPlaced x fs') (sym entries) (subst (λ x. IsPlaced (es ++ e ∷ []) x) (sym facts)
-            (placed_after es k fs new (value_of act) is.placed));
-        hashed = hashed;
-        fit = subst CountsFit (sym counted) (fit_after f s k new is.fit passes);
-        number = is.number;
-        after = subst (IsAfter f is.number) (sym same) (after-push f is.number s e is.after (record {
-          seated = subst (λ x. k < length x.seats.lock.rows) back below;
-          passes = passes;
-          allowed = subst (λ x. Condition f x k new) back allowed;
-          is = refl;
-        }));
-      }, same ∙ ap (λ x. effect f x k new) (sym back))
+      λ i. record { history = entries i; seats = moved i; table = tables i; counts = counted i } in
+      let passes : guard_of f s k new ≡ None = subst (λ x. guard_of f x k new ≡ None) back passed in (
+        record {
+          placed = subst (λ x. IsPlaced x fs') (sym entries) (subst (λ x. IsPlaced (es ++ e ∷ []) x) (sym facts)
+              (placed_after es k fs new (value_of act) is.placed));
+          hashed = hashed;
+          fit = subst CountsFit (sym counted) (fit_after f s k new is.fit passes);
+          number = is.number;
+          after = subst (IsAfter f is.number) (sym same) (after-push f is.number s e is.after (record {
+            seated = subst (λ x. k < length x.seats.lock.rows) back below;
+            passes = passes;
+            allowed = subst (λ x. Condition f x k new) back allowed;
+            is = refl;
+          }));
+        },
+        same ∙ ap (λ x. effect f x k new) (sym back),
+      )

@@ -1,10 +1,8 @@
 -- A task of the table is found by its hash.
-use Rattle.std.proofs.Common.{◌≡◌, ◌≢◌, ℕ, zero, suc, ◌+◌, ◌%◌, ◌<◌, ◌≤◌, ◌⊎◌, inl, inr, List, [], ◌∷◌, ◌++◌, length}
+use Rattle.std.proofs.Common.{◌≡◌, ◌≢◌, ℕ, zero, suc, ◌+◌, ◌%◌, ◌<◌, ◌≤◌, inl, inr, List, [], ◌∷◌, ◌++◌, length}
 use Rattle.std.proofs.Common.{Option, Some, None, Bool, true, false, ◌||◌, if◌then◌else◌, is_some, slice_index}
-use Rattle.std.proofs.Common.{slice_get}
 use Rattle.std.proofs.Common.{slice_index_or, option_map, refl, sym, ap, ◌∙◌, subst, arith}
-use Rattle.std.proofs.lemmas.Bool.{true≢false, cases_lt, or_parts, or_left, or_right}
-use Rattle.std.proofs.lemmas.Option.{none-some}
+use Rattle.std.proofs.lemmas.Bool.{true≢false, cases_lt, or_left, or_right}
 use Rattle.system_places.specs.Chains.{bucket, IsLast}
 use Rattle.system_events.specs.declared.event.Entry.{Entry}
 use Rattle.system_events.specs.Facts.{Facts, SameIsEqual}
@@ -14,7 +12,7 @@ use Rattle.system_laws.specs.Lawful.{AllApart}
 use Rattle.system_laws.proofs.Table.{not_true}
 use Rattle.system_laws.proofs.Keeps.{keeps_after}
 use Rattle.system_core.specs.declared.fact.Fact.{Fact}
-use Rattle.system_core.specs.Tables.{with_value, fact_task, pair_at, table_of, task_at, names, lookup, hash_of}
+use Rattle.system_core.specs.Tables.{with_value, fact_task, table_of, task_at, names, lookup, hash_of}
 use Rattle.system_core.specs.Tables.{hashes_of}
 
 module _ {M T V P Q R F : Type 0} (f : Facts T V P Q R F) where
@@ -69,8 +67,8 @@ module _ {M T V P Q R F : Type 0} (f : Facts T V P Q R F) (equal : SameIsEqual f
       names f task (task_at es fs i) ≡ false
   other_bucket hs buckets es fs task i hashed other =
       not_true f equal (names f task (task_at es fs i)) (λ same.
-        other (ap (λ h. h % buckets) (ap (λ xs. slice_index xs i) hashed
-          ∙ (hash_at f es fs i ∙ named_hash f equal task (task_at es fs i) same))))
+      other (ap (λ h. h % buckets) (ap (λ xs. slice_index xs i) hashed
+      ∙ (hash_at f es fs i ∙ named_hash f equal task (task_at es fs i) same))))
 
   -- the walk goes on to the last place of the bucket before those that it has passed
   pub walk_on : (hs : List ℕ) (buckets below : ℕ) (es : List (Entry M T V P Q R F)) (fs : List (Fact M T V P Q R F))
@@ -82,12 +80,17 @@ module _ {M T V P Q R F : Type 0} (f : Facts T V P Q R F) (equal : SameIsEqual f
         | inr after ↦ unseen i after under
       ]
   walk_on hs buckets below es fs task (Some place) hashed within unseen last =
-      let before : place < below = last.0 in
-      (omega (arith, before, within), (last.1, λ i from under.
-        elim (cases_lt i below) [
-          | inl lower ↦ other_bucket hs buckets es fs task i hashed (last.2 i (omega (arith, from)) lower)
-          | inr after ↦ unseen i after under
-        ]))
+      let before : place < below = last.0 in (
+        omega (arith, before, within),
+        (
+          last.1,
+          λ i from under.
+              elim (cases_lt i below) [
+                | inl lower ↦ other_bucket hs buckets es fs task i hashed (last.2 i (omega (arith, from)) lower)
+                | inr after ↦ unseen i after under
+              ],
+        ),
+      )
 
   -- the walk begins at the last place of the bucket
   pub walk_first : (hs : List ℕ) (buckets : ℕ) (es : List (Entry M T V P Q R F)) (fs : List (Fact M T V P Q R F))
@@ -131,16 +134,17 @@ module _ {M T V P Q R F : Type 0} (f : Facts T V P Q R F) (equal : SameIsEqual f
   lookup_none es [] task none = (refl, refl)
   lookup_none es (x ∷ fs) task none =
       by (fact_task es x) (none zero (omega arith))
-          (lookup_none es fs task (λ i under. none (suc i) (omega (arith, under))))
+      (lookup_none es fs task (λ i under. none (suc i) (omega (arith, under))))
     where
       by : (o : Option T) → names f task o ≡ false →
           (lookup f task (table_of es fs) ≡ None) × (is_in f task (table_of es fs) ≡ false) →
           (lookup f task (with_value x.value o ++ table_of es fs) ≡ None)
           × (is_in f task (with_value x.value o ++ table_of es fs) ≡ false)
       by None is later = later
-      by (Some other) is later =
-          (ap (λ b. if b then Some x.value else lookup f task (table_of es fs)) is ∙ later.0,
-            ap (λ b. b || is_in f task (table_of es fs)) is ∙ later.1)
+      by (Some other) is later = (
+        ap (λ b. if b then Some x.value else lookup f task (table_of es fs)) is ∙ later.0,
+        ap (λ b. b || is_in f task (table_of es fs)) is ∙ later.1,
+      )
 
   -- a table in which the fact at a place is of the task
   pub lookup_found : (es : List (Entry M T V P Q R F)) (fs : List (Fact M T V P Q R F)) (task : T) (i : ℕ)
@@ -156,17 +160,18 @@ module _ {M T V P Q R F : Type 0} (f : Facts T V P Q R F) (equal : SameIsEqual f
     where
       by : (o : Option T) → AllApart f (with_value x.value o ++ table_of es fs) →
           (AllApart f (table_of es fs) →
-            (lookup f task (table_of es fs) ≡ Some fact.value) × (is_in f task (table_of es fs) ≡ true)) →
+          (lookup f task (table_of es fs) ≡ Some fact.value) × (is_in f task (table_of es fs) ≡ true)) →
           (lookup f task (with_value x.value o ++ table_of es fs) ≡ Some fact.value)
           × (is_in f task (with_value x.value o ++ table_of es fs) ≡ true)
       by None one later = later one
       by (Some other) one later =
           let found = later one.1 in
           let different : f.same_task other task ≡ false = not_true f equal (f.same_task other task) (λ same.
-            true≢false (sym found.1 ∙ (ap (λ t. is_in f t (table_of es fs)) (sym ((equal other task).0 same))
-                ∙ one.0))) in
-          (ap (λ b. if b then Some x.value else lookup f task (table_of es fs)) different ∙ found.0,
-            or_right (f.same_task other task) _ found.1)
+          true≢false (sym found.1 ∙ (ap (λ t. is_in f t (table_of es fs)) (sym ((equal other task).0 same))
+          ∙ one.0))) in (
+            ap (λ b. if b then Some x.value else lookup f task (table_of es fs)) different ∙ found.0,
+            or_right (f.same_task other task) _ found.1,
+          )
 
   -- the walk stands at a place
   pub walk_here : (hs : List ℕ) (buckets place : ℕ) (es : List (Entry M T V P Q R F)) (fs : List (Fact M T V P Q R F))

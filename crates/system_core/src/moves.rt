@@ -44,12 +44,7 @@ pub(crate) fn split_act<M: Matter>(act: Act<M>) -> (Kept<M>, Option<M::Value>)
 }
 
 // Moves the seats. The entry will stand at this place.
-pub(crate) fn move_seats<M: Matter>(
-    seats: &mut SeatTable,
-    seat: u32,
-    kept: &Kept<M>,
-    place: u64,
-)
+pub(crate) fn move_seats<M: Matter>(seats: &mut SeatTable, seat: u32, kept: &Kept<M>, place: u64)
     requires seat { seat < length seats.old.lock.rows }
     requires passed { seat_guard seats.old seat kept.now ≡ None }
     ensures { seats.new ≡ seats_after seats.old place seat kept.now }
