@@ -1,12 +1,10 @@
 -- The fields after an event.
 use Rattle.std.proofs.Common.{◌≡◌, ℕ, zero, suc, ◌+◌, ◌<◌, ◌≤◌, List, [], ◌∷◌, ◌++◌, length, length-append}
 use Rattle.std.proofs.Common.{append_assoc}
-use Rattle.std.proofs.Common.{append-nil, Option, Some, None, Bool, true, false, not, cond, nat_lt, is_some, slice_get}
+use Rattle.std.proofs.Common.{Option, Some, None, true, false, not, cond, nat_lt, is_some, slice_get}
 use Rattle.std.proofs.Common.{refl, sym}
 use Rattle.std.proofs.Common.{ap, ◌∙◌, subst, arith}
-use Rattle.std.proofs.lemmas.Bool.{true≢false, ltb-true, not-false}
-use Rattle.std.proofs.lemmas.Option.{none-some}
-use Rattle.system_seats.specs.declared.guard.Guard.{Guard}
+use Rattle.std.proofs.lemmas.Bool.{ltb-true, not-false}
 use Rattle.system_seats.specs.Seats.{Seats, seats_at_rest}
 use Rattle.system_seats.specs.Guards.{reload_guard}
 use Rattle.system_seats.proofs.From.{guard_false}
@@ -24,7 +22,7 @@ use Rattle.system_events.specs.Guards.{guard_of, reload_limits, request_limits}
 use Rattle.system_events.specs.Steps.{effect, seats_after, counts_after, table_after, pair_of, kept_of, value_of}
 use Rattle.system_events.specs.Steps.{IsKnown}
 use Rattle.system_events.specs.Steps.{Condition}
-use Rattle.system_events.specs.Legal.{opening, start, IsStep, IsAfter}
+use Rattle.system_events.specs.Legal.{opening, start, IsAfter}
 use Rattle.system_laws.proofs.Tidy.{second_none}
 use Rattle.system_laws.proofs.Keeps.{after-push}
 use Rattle.system_core.specs.declared.fact.Fact.{Fact}

@@ -1,10 +1,8 @@
 -- A task of the table is found by its hash.
-use Rattle.std.proofs.Common.{◌≡◌, ◌≢◌, ℕ, zero, suc, ◌+◌, ◌%◌, ◌<◌, ◌≤◌, ◌⊎◌, inl, inr, List, [], ◌∷◌, ◌++◌, length}
+use Rattle.std.proofs.Common.{◌≡◌, ◌≢◌, ℕ, zero, suc, ◌+◌, ◌%◌, ◌<◌, ◌≤◌, inl, inr, List, [], ◌∷◌, ◌++◌, length}
 use Rattle.std.proofs.Common.{Option, Some, None, Bool, true, false, ◌||◌, if◌then◌else◌, is_some, slice_index}
-use Rattle.std.proofs.Common.{slice_get}
 use Rattle.std.proofs.Common.{slice_index_or, option_map, refl, sym, ap, ◌∙◌, subst, arith}
-use Rattle.std.proofs.lemmas.Bool.{true≢false, cases_lt, or_parts, or_left, or_right}
-use Rattle.std.proofs.lemmas.Option.{none-some}
+use Rattle.std.proofs.lemmas.Bool.{true≢false, cases_lt, or_left, or_right}
 use Rattle.system_places.specs.Chains.{bucket, IsLast}
 use Rattle.system_events.specs.declared.event.Entry.{Entry}
 use Rattle.system_events.specs.Facts.{Facts, SameIsEqual}
@@ -14,7 +12,7 @@ use Rattle.system_laws.specs.Lawful.{AllApart}
 use Rattle.system_laws.proofs.Table.{not_true}
 use Rattle.system_laws.proofs.Keeps.{keeps_after}
 use Rattle.system_core.specs.declared.fact.Fact.{Fact}
-use Rattle.system_core.specs.Tables.{with_value, fact_task, pair_at, table_of, task_at, names, lookup, hash_of}
+use Rattle.system_core.specs.Tables.{with_value, fact_task, table_of, task_at, names, lookup, hash_of}
 use Rattle.system_core.specs.Tables.{hashes_of}
 
 module _ {M T V P Q R F : Type 0} (f : Facts T V P Q R F) where

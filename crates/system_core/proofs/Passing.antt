@@ -1,11 +1,11 @@
 -- Where no guard of a row is true, none of those that look at the seats alone is.
-use Rattle.std.proofs.Common.{◌≡◌, ℕ, Option, Some, None, Bool, true, false, refl}
+use Rattle.std.proofs.Common.{◌≡◌, ℕ, None, refl}
 use Rattle.system_seats.specs.Seats.{row, runs_at, is_owner}
 use Rattle.system_seats.proofs.Firsts.{seek_fresh, take_fresh}
 use Rattle.system_events.specs.declared.event.Cause.TheVariants.{Memory}
 use Rattle.system_events.specs.declared.event.Kept.{Kept}
 use Rattle.system_events.specs.declared.event.Kept.TheVariants.{Share, Unshare, Yield, Retake, Seek, Take, Release}
-use Rattle.system_events.specs.declared.event.Kept.TheVariants.{Resume, Define, Reload, Begin, End, Refuse}
+use Rattle.system_events.specs.declared.event.Kept.TheVariants.{Resume, Begin, End, Refuse}
 use Rattle.system_events.specs.Facts.{Facts}
 use Rattle.system_events.specs.State.{State, purpose_of, in_table, is_wanted}
 use Rattle.system_events.specs.Guards.{guard_of}

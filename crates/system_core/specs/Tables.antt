@@ -1,7 +1,7 @@
 -- The table as a system keeps it: of each task the place of its Define, and the value.
-use Rattle.std.specs.Prelude.{◌≡◌, ℕ, zero, suc, ◌<◌, List, [], ◌∷◌, ◌++◌, length, Option, Some, None, Bool, true}
+use Rattle.std.specs.Prelude.{ℕ, zero, suc, ◌<◌, List, [], ◌∷◌, ◌++◌, length, Option, Some, None, Bool}
 use Rattle.std.specs.Prelude.{false}
-use Rattle.std.specs.Prelude.{if◌then◌else◌, slice_get, slice_index_or}
+use Rattle.std.specs.Prelude.{if◌then◌else◌, slice_get}
 use Rattle.system_events.specs.declared.event.Entry.{Entry}
 use Rattle.system_events.specs.declared.event.Kept.{Kept}
 use Rattle.system_events.specs.declared.event.Kept.TheVariants.{Define, Reload}

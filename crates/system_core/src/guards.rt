@@ -4,13 +4,13 @@ ghost use Rattle.system_seats.specs.declared.guard.Guard.{Guard};
 ghost use Rattle.system_seats.specs.Seats.{runs_at};
 ghost use Rattle.system_seats.specs.Guards.{◌when◌else◌};
 ghost use Rattle.system_events.specs.declared.event.Kept.{Kept};
-ghost use Rattle.system_events.specs.State.{in_table, same_want, is_that, is_wanted, want_of, want_at};
+ghost use Rattle.system_events.specs.State.{in_table, same_want, is_wanted};
 ghost use Rattle.system_events.specs.Guards.{guard_of, refuse_guard, reload_limits, request_limits};
 ghost use Rattle.system_events.specs.Steps.{kept_of};
 
 use crate::moves::purpose_of;
 use crate::system::System;
-use system_events::{Act, Cause, Counts, Entry, Event, Kept, Matter, Want};
+use system_events::{Act, Cause, Counts, Event, Matter, Want};
 use system_seats::Guard;
 
 fn same_want<M: Matter>(a: &Want<M>, b: &Want<M>) -> bool
@@ -20,30 +20,6 @@ fn same_want<M: Matter>(a: &Want<M>, b: &Want<M>) -> bool
         (Want::Load(task), Want::Load(other)) => M::same_task(task, other),
         (Want::Unload, Want::Unload) => true,
         _ => false,
-    }
-}
-
-// Whether an entry opened a section for this want.
-fn opens<M: Matter>(kept: &Kept<M>, want: &Want<M>) -> bool
-    ensures { result ≡ is_that M.facts want.now (want_of kept.now) }
-{
-    match kept {
-        Kept::Seek(other) => same_want(other, want),
-        Kept::Take(other) => same_want(other, want),
-        _ => false,
-    }
-}
-
-// Whether the entry at a place opened a section for this want.
-fn opens_at<M: Matter>(entries: &[Entry<M>], place: Option<u64>, want: &Want<M>) -> bool
-    ensures { result ≡ is_that M.facts want.now (want_at entries.now place) }
-{
-    match place {
-        None => false,
-        Some(place) => match entries.get(place as usize) {
-            None => false,
-            Some(entry) => opens(&entry.kept, want),
-        },
     }
 }
 
@@ -94,7 +70,10 @@ impl<M: Matter> System<M> {
         requires { seat < length self.now.state.seats.lock.rows }
         ensures { result ≡ is_wanted M.facts self.now.state seat want.now }
     {
-        opens_at(&self.entries, self.seats.row(seat).section, want)
+        match self.section(seat) {
+            None => false,
+            Some(other) => same_want(other, want),
+        }
     }
 
     // The first guard of the event's row that is true.

@@ -31,6 +31,7 @@ mod apply;
 mod fact;
 mod guards;
 mod moves;
+mod reading;
 mod system;
 mod table;
 

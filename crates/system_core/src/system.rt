@@ -2,7 +2,7 @@
 ghost use Rattle.std.specs.Prelude.{◌≡◌, ◌<◌, ◌≤◌, ℕ, length, Some, IfOk, slice_get, option_map};
 ghost use Rattle.system_seats.specs.Seats.{mark, row};
 ghost use Rattle.system_seats.specs.Copies.{mark_part};
-ghost use Rattle.system_events.specs.State.{is_in};
+ghost use Rattle.system_events.specs.State.{is_in, section_want, running_request};
 ghost use Rattle.system_events.specs.Legal.{start, IsAfter};
 ghost use Rattle.system_events.specs.Right.{IsRight};
 ghost use Rattle.system_laws.specs.Lawful.{IsExclusive, MayTake, AreOpened, AreSteady, IsTable, DefinesOnce};
@@ -10,10 +10,11 @@ ghost use Rattle.system_laws.specs.Lawful.{DefinesNeeded};
 ghost use Rattle.system_core.specs.Tables.{lookup};
 
 use crate::fact::Fact;
+use crate::reading::{request_at, want_at};
 use crate::table::value_in;
 use std::alloc::{AllocError, Global};
 use std::marker::Model;
-use system_events::{Counts, Entry, Kept, Matter};
+use system_events::{Counts, Entry, Kept, Matter, Want};
 use system_laws::every_legal_history;
 use system_places::Places;
 use system_seats::{SeatTable, SystemRow};
@@ -85,6 +86,13 @@ impl<M: Matter> System<M> {
         self.places.reserve(values)
     }
 
+    /// How many seats there are.
+    pub fn seat_count(&self) -> usize
+        ensures { result ≡ length self.now.state.seats.lock.rows }
+    {
+        self.seats.seat_count()
+    }
+
     /// The number of the generation in force.
     pub fn generation(&self) -> u32
         ensures { result ≡ self.now.state.counts.generation }
@@ -122,6 +130,22 @@ impl<M: Matter> System<M> {
         self.seats.row(seat)
     }
 
+    /// What the seat's section is for: the want of its Seek, or without one of its Take.
+    pub fn section(&self, seat: u32) -> Option<&Want<M>>
+        requires { seat < length self.now.state.seats.lock.rows }
+        ensures { option_map (λ want. want.now) result ≡ section_want self.now.state seat }
+    {
+        want_at(&self.entries, self.seats.marks(seat).section)
+    }
+
+    /// The request that the seat runs.
+    pub fn request(&self, seat: u32) -> Option<&M::Request>
+        requires { seat < length self.now.state.seats.lock.rows }
+        ensures { option_map (λ request. request.now) result ≡ running_request self.now.state seat }
+    {
+        request_at(&self.entries, self.seats.marks(seat).running)
+    }
+
     /// How many entries the history has.
     pub fn length(&self) -> u64
         ensures { result ≡ length self.now.state.history }
@@ -148,7 +172,7 @@ impl<M: Matter> System<M> {
     pub fn laws(&self)
         ensures right { IsRight M.facts self.now.state.history }
         ensures exclusive { IsExclusive self.now.state.seats }
-        ensures may_take { MayTake self.now.state.seats }
+        ensures may_take { MayTake M.facts self.now.state }
         ensures table { IsTable M.facts self.now.state.counts.program self.now.state.table }
         ensures once { DefinesOnce M.facts self.now.state.history }
         ensures needed { (seats : ℕ) × DefinesNeeded M.facts seats self.now.state.history }

@@ -9,12 +9,12 @@ use Rattle.share_lock.specs.Rows.{row_at, holds_shares, waits_without, another, 
 use Rattle.system_seats.specs.declared.guard.Guard.TheVariants.{BusyExclusive, WrongWant}
 use Rattle.system_seats.specs.declared.guard.Purpose.TheVariants.{Load as For-Load, Unload as For-Unload}
 use Rattle.system_seats.specs.Seats.{Seats, row, mark, runs_at, is_owner, is_calm, purpose_bit}
-use Rattle.system_seats.specs.Guards.{◌when◌else◌, own_seek, seeks_this}
+use Rattle.system_seats.specs.Guards.{◌when◌else◌, own_seek, seeks_this, take_guard}
 use Rattle.system_seats.specs.Shapes.{Shape, Rests, Shares, Runs, Yields, SeeksLoad, SeeksUnload, Loads, Unloads}
 use Rattle.system_seats.specs.Shapes.{LeavesLoad, LeavesUnload, HasShape, IsTidy, shape_row, shape_runs, shape_section}
 use Rattle.system_seats.specs.Shapes.{shape_owns}
 use Rattle.system_seats.proofs.Events.{none_of}
-use Rattle.system_laws.specs.Lawful.{IsExclusive, MayTake}
+use Rattle.system_laws.specs.Lawful.{IsExclusive}
 
 -- SHAPE BY SHAPE
 
@@ -129,8 +129,9 @@ none_other test (r ∷ rs) (suc k) h =
     or_from (test r) (another test rs k) (h zero) (none_other test rs k (λ j. h (suc j)))
 
 -- where no seat is exclusive and none has a share, each seat that seeks a load may take it
-pub tidy-may_take : (s : Seats) → IsTidy s → MayTake s
-tidy-may_take s tidy k none idle seeks =
+pub tidy-may_take : (s : Seats) (k : ℕ) (known : Bool) → IsTidy s → s.lock.exclusive ≡ None →
+    ((j : ℕ) → (row s j).shares ≡ 0) → (row s k).phase ≡ Seeking 0 → take_guard s k For-Load known true ≡ None
+tidy-may_take s k known tidy none idle seeks =
     let waits : another (waits_without 0) s.lock.rows k ≡ false =
     none_other (waits_without 0) s.lock.rows k (tidy-exclusive s tidy).admits_loads in
     let shares : another holds_shares s.lock.rows k ≡ false =
@@ -140,7 +141,7 @@ tidy-may_take s tidy k none idle seeks =
     let free : busy_exclusive s.lock.rows s.lock.exclusive k 0 ≡ false =
     or_from _ _ (or_from _ _ other waits) shares in
     ap (λ p. if is_calm p
-    then own_seek For-Load (row s k) (runs_at s k) (is_owner s k) false
+    then own_seek For-Load (row s k) (runs_at s k) (is_owner s k) known
     (BusyExclusive when busy_exclusive s.lock.rows s.lock.exclusive k 0 else None)
     else (WrongWant when not (seeks_this For-Load true p)
     else BusyExclusive when busy_exclusive s.lock.rows s.lock.exclusive k 0 else None)) seeks

@@ -1,23 +1,32 @@
 -- The laws of all legal histories.
 use Rattle.std.proofs.Common.{◌≡◌, ℕ, inl, inr, List, [], ◌∷◌, ◌++◌, Option, Some, None}
 use Rattle.std.proofs.Common.{Bool}
-use Rattle.std.proofs.Common.{true, false, if◌then◌else◌, is_some, refl, sym, ap, ◌∙◌, subst}
+use Rattle.std.proofs.Common.{true, false, if◌then◌else◌, is_some, refl, sym, ap, ◌∙◌, subst, arith}
 use Rattle.std.proofs.lemmas.Bool.{true≢false, not-false}
+use Rattle.std.proofs.lemmas.Option.{same_Some}
 use Rattle.system_seats.specs.Seats.{mark, runs_at}
+use Rattle.system_seats.specs.declared.guard.Purpose.{Purpose}
+use Rattle.system_seats.specs.declared.guard.Purpose.TheVariants.{Load as For-Load, Unload as For-Unload}
+use Rattle.system_seats.specs.Seats.{purpose_bit}
+use Rattle.system_seats.specs.Guards.{take_guard}
+use Rattle.system_seats.specs.Effects.{purpose_of_section}
 use Rattle.system_seats.proofs.From.{guard_false}
+use Rattle.system_events.specs.declared.event.Want.{Want}
+use Rattle.system_events.specs.declared.event.Want.TheVariants.{Load, Unload}
 use Rattle.system_events.specs.declared.event.Entry.{Entry}
 use Rattle.system_events.specs.declared.event.Kept.{Kept}
 use Rattle.system_events.specs.declared.event.Kept.TheVariants.{Define, Reload, Begin, End}
 use Rattle.system_events.specs.Facts.{Facts, SameIsEqual}
-use Rattle.system_events.specs.State.{State, is_in, request_at}
+use Rattle.system_events.specs.State.{State, is_in, request_at, want_at, purpose_of, in_table, same_want, is_that, is_wanted}
 use Rattle.system_events.specs.Guards.{guard_of}
 use Rattle.system_events.specs.Steps.{effect, pair_of, IsReply}
 use Rattle.system_events.specs.Legal.{start, IsStep, after_from, after, IsLegal}
 use Rattle.system_events.specs.Right.{is_of_thread, one_thread, program_after, begun_after, last_begin, IsRight}
-use Rattle.system_laws.specs.Lawful.{NoReload, DefinesOnce, DefinesNeeded}
+use Rattle.system_laws.specs.Lawful.{MayTake, NoReload, DefinesOnce, DefinesNeeded}
 use Rattle.system_laws.proofs.Tidy.{second_none}
-use Rattle.system_laws.proofs.Table.{not_true, in_defined, in_kept}
+use Rattle.system_laws.proofs.Table.{same_self, not_true, in_defined, in_kept}
 use Rattle.system_laws.proofs.Runs.{Runs}
+use Rattle.system_laws.proofs.Exclusion.{tidy-exclusive, tidy-may_take}
 use Rattle.system_laws.proofs.Keeps.{Keeps, keeps_after, history_after, legal_split}
 
 -- EVERY LEGAL HISTORY IS RIGHT
@@ -49,6 +58,12 @@ module _ {M T V P Q R F : Type 0} where
           ap (λ b. last_begin k program found (if b then (e ∷ one_thread es) else one_thread es)) is
           ∙ (off ∙ (λ i. last_begin k ((idle e.seat e.kept is).0 i) ((idle e.seat e.kept is).1 i) es))
 
+-- the purpose with the number 0 is a load
+load_of : (purpose : Purpose) → 0 ≡ purpose_bit purpose → purpose ≡ For-Load
+load_of For-Load is = refl
+load_of For-Unload is = absurd (omega (arith, is))
+
+-- what is there is some number
 some_there : (o : Option ℕ) → is_some o ≡ true → (n : ℕ) × (o ≡ Some n)
 some_there None is = absurd (true≢false (sym is))
 some_there (Some n) is = (n, refl)
@@ -139,3 +154,23 @@ module _ {M T V P Q R F : Type 0} (f : Facts T V P Q R F) (equal : SameIsEqual f
       let new : is_in f b here.table ≡ false = (guard_false _ _ _ (second_none _ _ second.1.passes)).0 in
       not_true f equal (f.same_task a b) (λ same.
       true≢false (sym defined ∙ (ap (λ t. is_in f t here.table) ((equal a b).0 same) ∙ new)))
+
+  -- WHO MAY TAKE
+
+  same_want_self : (want : Want M T V P Q R F) → same_want f want want ≡ true
+  same_want_self (Load task) = same_self f equal task
+  same_want_self Unload = refl
+
+  -- Where no seat is exclusive and none has a share, each seat that seeks a load may take it.
+  pub keeps-may_take : (s : State M T V P Q R F) → Keeps f s → MayTake f s
+  keeps-may_take s keeps k want none idle seeks is =
+      let section = some_there (mark s.seats k).section ((tidy-exclusive s.seats keeps.tidy).seeks k 0 seeks).0 in
+      let opened = keeps.sections k section.0 section.1 in
+      let same : opened.0 ≡ want =
+      same_Some opened.0 want (sym opened.1.0 ∙ (sym (ap (want_at s.history) section.1) ∙ is)) in
+      let purpose : purpose_of want ≡ For-Load =
+      sym (ap purpose_of same) ∙ (opened.1.1 ∙ load_of (purpose_of_section (mark s.seats k))
+      ((tidy-exclusive s.seats keeps.tidy).seeks k 0 seeks).1) in
+      let wanted : is_wanted f s k want ≡ true = ap (is_that f want) is ∙ same_want_self want in
+      (λ i. take_guard s.seats k (purpose i) (in_table f s want) (wanted i))
+      ∙ tidy-may_take s.seats k (in_table f s want) keeps.tidy none idle seeks

@@ -4,16 +4,15 @@ use Rattle.std.specs.Prelude.{is_some, slice_get}
 use Rattle.share_lock.specs.declared.seat.Phase.TheVariants.{Seeking, Releasing}
 use Rattle.share_lock.specs.Rows.{waits_without}
 use Rattle.system_seats.specs.declared.guard.Marks.{Marks}
-use Rattle.system_seats.specs.declared.guard.Purpose.TheVariants.{Load as For-Load}
 use Rattle.system_seats.specs.Seats.{Seats, mark, row, runs_at, is_owner, is_calm, purpose_bit}
-use Rattle.system_seats.specs.Guards.{take_guard}
 use Rattle.system_seats.specs.Effects.{purpose_of_section}
 use Rattle.system_events.specs.declared.event.Want.{Want}
 use Rattle.system_events.specs.declared.event.Entry.{Entry}
 use Rattle.system_events.specs.declared.event.Kept.{Kept}
-use Rattle.system_events.specs.declared.event.Kept.TheVariants.{Define, Reload}
+use Rattle.system_events.specs.declared.event.Kept.TheVariants.{Take, Define, Reload}
 use Rattle.system_events.specs.Facts.{Facts}
-use Rattle.system_events.specs.State.{State, is_in, want_at, purpose_of}
+use Rattle.system_events.specs.State.{State, is_in, want_at, section_want, purpose_of}
+use Rattle.system_events.specs.Guards.{guard_of}
 use Rattle.system_events.specs.Steps.{IsNeeded}
 use Rattle.system_events.specs.Legal.{after}
 
@@ -35,12 +34,6 @@ pub record IsExclusive (s : Seats) : Type 0 where
       (is_some (mark s k).section ≡ true) × (purpose ≡ purpose_bit (purpose_of_section (mark s k)))
   -- a seat that waits after a release has none
   pub leaves : (k list : ℕ) → (row s k).phase ≡ Releasing list → (mark s k).section ≡ None
-
--- where no seat is exclusive and none has a share, each seat that seeks a load may take it
-abbrev pub MayTake : Seats → Type 0
-MayTake s =
-    (k : ℕ) → s.lock.exclusive ≡ None → ((j : ℕ) → (row s j).shares ≡ 0) → (row s k).phase ≡ Seeking 0 →
-    take_guard s k For-Load false true ≡ None
 
 -- SECTIONS AND RUNS
 
@@ -66,6 +59,17 @@ module _ {M T V P Q R F : Type 0} where
   AreSteady s =
       (k place later : ℕ) (entry : Entry M T V P Q R F) → (mark s.seats k).running ≡ Some place → place < later →
       slice_get s.history later ≡ Some entry → IsNoReload entry.kept
+
+-- WHO MAY TAKE
+
+module _ {M T V P Q R F : Type 0} (f : Facts T V P Q R F) where
+  -- Where no seat is exclusive and none has a share, each seat that seeks a load may take it: no guard of its Take is
+  -- true.
+  abbrev pub MayTake : State M T V P Q R F → Type 0
+  MayTake s =
+      (k : ℕ) (want : Want M T V P Q R F) → s.seats.lock.exclusive ≡ None →
+      ((j : ℕ) → (row s.seats j).shares ≡ 0) → (row s.seats k).phase ≡ Seeking 0 → section_want s k ≡ Some want →
+      guard_of f s k (Take want) ≡ None
 
 -- THE TABLE
 

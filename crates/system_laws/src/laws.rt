@@ -18,7 +18,7 @@ pub fn every_legal_history<M: Matter>()
         IsLegal M.facts seats history → IsExclusive (after M.facts seats history).seats }
     ensures may_take { (seats : ℕ)
         (history : List (Entry M M.Task M.Value M.Program M.Request M.Reply M.Fault)) →
-        IsLegal M.facts seats history → MayTake (after M.facts seats history).seats }
+        IsLegal M.facts seats history → MayTake M.facts (after M.facts seats history) }
     ensures table { (seats : ℕ)
         (history : List (Entry M M.Task M.Value M.Program M.Request M.Reply M.Fault)) →
         IsLegal M.facts seats history →

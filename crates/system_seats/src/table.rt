@@ -60,6 +60,13 @@ impl SeatTable {
         Ok(SeatTable { lock, rows })
     }
 
+    /// How many seats there are.
+    pub fn seat_count(&self) -> usize
+        ensures { result ≡ length self.now.lock.rows }
+    {
+        self.lock.raw_state().len()
+    }
+
     /// The seat's row.
     pub fn row(&self, seat: u32) -> &SystemRow
         requires { seat < length self.now.lock.rows }

@@ -1,6 +1,6 @@
-use Rattle.std.proofs.Common.{◌≡◌, ◌+◌, ◌<◌, ℕ, true, false, length, Some, sym, ap, ◌∙◌, subst, arith}
+use Rattle.std.proofs.Common.{◌≡◌, ◌<◌, ℕ, true, length, sym, ap, ◌∙◌, subst, arith}
 use Rattle.std.proofs.lemmas.Option.{same_Some}
-use Rattle.system_core.specs.Tables.{names, task_at, hashes_of}
+use Rattle.system_core.specs.Tables.{names, task_at}
 use Rattle.system_core.proofs.Finding.{walk_left, walk_nearer, walk_first, walk_past, walk_here, hashes-length}
 use Rattle.system_core.proofs.Finding.{task_at_place}
 use Rattle.system_core.proofs.table.place_of.Goals as goal

@@ -1,5 +1,4 @@
-use Rattle.std.proofs.Common.{◌≤◌, ◌<◌, sym, ap, ◌∙◌, Some, length, arith}
-use Rattle.system_core.specs.declared.fact.Fact.{Fact}
+use Rattle.std.proofs.Common.{◌<◌, sym, ap, ◌∙◌, Some, length, arith}
 use Rattle.system_core.proofs.Finding.{lookup_none, lookup_found}
 use Rattle.system_core.proofs.table.value_in.Goals as goal
 

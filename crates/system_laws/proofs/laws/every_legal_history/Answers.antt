@@ -1,6 +1,6 @@
-use Rattle.system_laws.proofs.Exclusion.{tidy-exclusive, tidy-may_take}
+use Rattle.system_laws.proofs.Exclusion.{tidy-exclusive}
 use Rattle.system_laws.proofs.Keeps.{keeps_after}
-use Rattle.system_laws.proofs.Histories.{legal-right, legal-once, legal-needed}
+use Rattle.system_laws.proofs.Histories.{legal-right, legal-once, legal-needed, keeps-may_take}
 use Rattle.system_laws.proofs.laws.every_legal_history.Goals as goal
 
 pub returns-clause-right : goal.returns-clause-right
@@ -12,7 +12,8 @@ returns-clause-exclusive g c = λ n h legal.
 
 pub returns-clause-may_take : goal.returns-clause-may_take
 returns-clause-may_take g c = λ n h legal.
-    tidy-may_take _ (keeps_after g.M.Matter.facts g.met.M.Matter.same_is_equal n h legal).tidy
+    keeps-may_take g.M.Matter.facts g.met.M.Matter.same_is_equal _
+    (keeps_after g.M.Matter.facts g.met.M.Matter.same_is_equal n h legal)
 
 pub returns-clause-table : goal.returns-clause-table
 returns-clause-table g c = λ n h legal.

@@ -1,8 +1,6 @@
-use Rattle.std.proofs.Common.{◌≡◌, ◌+◌, ◌-◌, ◌≤◌, ◌<◌, min, cond, is_some, length, vec_len, vec_capacity, sym, ap, ◌∙◌}
-use Rattle.std.proofs.Common.{subst}
+use Rattle.std.proofs.Common.{◌≡◌, ◌-◌, min, cond, is_some, length, vec_len, vec_capacity, sym, ap, ◌∙◌}
 use Rattle.std.proofs.Common.{arith}
-use Rattle.system_events.specs.Steps.{value_of}
-use Rattle.system_core.specs.Keeping.{Book, values_used}
+use Rattle.system_core.specs.Keeping.{values_used}
 use Rattle.system_core.specs.Seated.{seat_guard}
 use Rattle.system_core.proofs.Fields.{used_is, some_room, kept_after}
 use Rattle.system_core.proofs.Passing.{seat_passes}

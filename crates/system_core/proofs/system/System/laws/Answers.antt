@@ -1,5 +1,4 @@
 use Rattle.std.proofs.Common.{sym, subst}
-use Rattle.system_events.specs.State.{State}
 use Rattle.system_laws.specs.Lawful.{IsExclusive, MayTake, IsTable, AreOpened, AreSteady}
 use Rattle.system_core.proofs.system.System.laws.Goals as goal
 
@@ -14,7 +13,7 @@ returns-clause-exclusive g c =
 
 pub returns-clause-may_take : goal.returns-clause-may_take
 returns-clause-may_take g c =
-    subst (λ s. MayTake s.seats) (sym c.is_legal.ensures.1.state)
+    subst (λ s. MayTake g.M.Matter.facts s) (sym c.is_legal.ensures.1.state)
     (c.every_legal_history.ensures.may_take c.is_legal.ensures.0 _ c.is_legal.ensures.1.legal)
 
 pub returns-clause-table : goal.returns-clause-table

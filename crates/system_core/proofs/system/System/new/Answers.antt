@@ -1,4 +1,4 @@
-use Rattle.std.proofs.Common.{◌≡◌, [], ◌∷◌, ◌++◌, ◌∙◌}
+use Rattle.std.proofs.Common.{[], ◌∷◌, ◌++◌, ◌∙◌}
 use Rattle.system_events.specs.declared.event.Kept.TheVariants.{Reload}
 use Rattle.system_core.proofs.Fields.{kept_new}
 use Rattle.system_core.proofs.system.System.new.Goals as goal

@@ -1,6 +1,5 @@
 use Rattle.std.proofs.Common.{sym, ap, ◌∙◌, subst}
 use Rattle.system_laws.specs.Lawful.{AllApart}
-use Rattle.system_core.specs.Keeping.{Book}
 use Rattle.system_core.specs.Tables.{lookup, table_of, hashes_of}
 use Rattle.system_core.proofs.Finding.{apart_after}
 use Rattle.system_core.proofs.system.System.value.Goals as goal
