@@ -5,8 +5,11 @@ use Rattle.ruby_builtin_keys.proofs.indexed.Indexed.put.Goals as goal
 
 pub replace-requires : goal.replace-requires
 replace-requires c =
-    omega (arith, (put_at 0 c.args.self.pairs.items c.args.pair c.in-Some.place (sym c.place_of.ensures
-        ∙ c.in-Some.is)).within)
+    omega (
+      arith,
+      (put_at 0 c.args.self.pairs.items c.args.pair c.in-Some.place (sym c.place_of.ensures
+          ∙ c.in-Some.is)).within,
+    )
 
 pub returns-in-None : goal.returns-in-None
 returns-in-None c =
