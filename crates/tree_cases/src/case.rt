@@ -4,6 +4,7 @@ use outside::{CallNumbers, MemTree, Snapshot, Tree, TreeAns};
 use std::alloc::{AllocError, Global};
 use tree_command::{ListingFault, list_tree};
 
+/// An application as the lines of a case tell it, and what is wanted of it.
 #[derive(Drop)]
 pub struct Case {
     tree: MemTree,
