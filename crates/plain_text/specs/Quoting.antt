@@ -12,6 +12,7 @@ escaped_by (escape ∷ escapes) byte = if byte == escape.0 then 92 ∷ escape.1 
 abbrev pub inspect_escapes : List (ℕ × ℕ)
 inspect_escapes = (34, 34) ∷ (92, 92) ∷ (10, 110) ∷ (9, 116) ∷ (13, 114) ∷ []
 
+-- What stands for a byte in double quotes, as `inspect` writes it: LF is `\n`, `é` is itself.
 abbrev pub escaped : ℕ → List ℕ
 escaped byte = escaped_by inspect_escapes byte
 

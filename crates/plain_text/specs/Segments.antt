@@ -3,6 +3,7 @@
 use Rattle.std.specs.Prelude.{ℕ, List, [], ◌≡◌, ◌≢◌, ◌==◌}
 use Rattle.std.specs.List.{All, slice_split, join_with_byte}
 
+-- The byte that stands between segments.
 abbrev pub slash : ℕ
 slash = 47
 

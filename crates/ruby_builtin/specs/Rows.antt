@@ -27,9 +27,11 @@ own_layer (layer.Sym symbol) name = at_receiver symbol (row_of sym_rows name)
 own_layer (layer.Module path) name = at_receiver path (row_of module_rows name)
 own_layer other name = None
 
+-- The row of the receiver's own kind, if it has one of this name.
 abbrev pub own_row : Value → List ℕ → Option Method
 own_row on name = own_layer (out-Value on) name
 
+-- The row of the own kind, or else that of every value.
 abbrev pub or_common : Option Method → Option Method → Option Method
 or_common None common = common
 or_common (Some own) common = Some own
@@ -43,6 +45,7 @@ abbrev pub method_called : ℕ → Value → List ℕ → List Value → Option 
 method_called left on name args None = NoMethod
 method_called left on name args (Some method) = called_of left on name args (method args)
 
+-- What a call gives: the row's answer with its cost, or no method.
 abbrev pub built_in_called : ℕ → Value → List ℕ → List Value → Called
 built_in_called left on name args = method_called left on name args (built_in on name)
 

@@ -7,6 +7,7 @@ use Rattle.std.specs.Prelude.{ℕ, ◌+◌, Bool, true, false, ◌&&◌, nat_le,
 abbrev pub is_inner : ℕ → Bool
 is_inner byte = nat_le 128 byte && nat_le byte 191
 
+-- Whether the next byte goes on a character: it is from 128 to 191.
 abbrev pub begins_inside : List ℕ → Bool
 begins_inside [] = false
 begins_inside (byte ∷ bytes) = is_inner byte
@@ -16,6 +17,7 @@ abbrev pub onto : ℕ → Bool → List (List ℕ) → List (List ℕ)
 onto byte true (first ∷ others) = (byte ∷ first) ∷ others
 onto byte inside others = (byte ∷ []) ∷ others
 
+-- The characters of a text, in order.
 abbrev pub characters : List ℕ → List (List ℕ)
 characters [] = []
 characters (byte ∷ bytes) = onto byte (begins_inside bytes) (characters bytes)

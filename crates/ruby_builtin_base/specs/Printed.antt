@@ -35,9 +35,11 @@ inspect_layer (layer.Hash pairs) = 123 ∷ (joined (map pair_text pairs) ++ 125 
 inspect_layer (layer.Module path) = path_text path
 inspect_layer (layer.Object class variables) = 35 ∷ 60 ∷ (path_text class ++ 62 ∷ [])
 
+-- What `inspect` gives: `[1, "a", nil]`, `{:b=>:c}`, `#<Post>`.
 abbrev pub inspect : Value → List ℕ
 inspect = fold-Value (List ℕ) inspect_layer
 
+-- A pair of a hash: `:b=>:c`.
 abbrev pub inspect_pair : Value × Value → List ℕ
 inspect_pair p = pair_text (inspect p.0, inspect p.1)
 
@@ -49,6 +51,7 @@ to_s_layer inspected (layer.Str text) = text
 to_s_layer inspected (layer.Sym name) = name
 to_s_layer inspected _ = inspected
 
+-- What `to_s` gives: the text of a Str or Sym, nothing for nil, else as `inspect`.
 abbrev pub to_s : Value → List ℕ
 to_s value = to_s_layer (inspect value) (out-Value value)
 

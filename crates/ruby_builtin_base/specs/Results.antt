@@ -14,6 +14,7 @@ abbrev pub whole : Option ℤ → Answer
 whole (Some n) = Gives (Int n)
 whole None = Raises class.Range (codes "integer out of range")
 
+-- A number, or a RangeError where it is out of 64 bits.
 abbrev pub integer : ℤ → Answer
 integer n = whole (fitted n)
 
@@ -21,5 +22,6 @@ integer n = whole (fitted n)
 abbrev pub count : ℕ → Answer
 count n = integer (pos n)
 
+-- true or false.
 abbrev pub truth : Bool → Answer
 truth b = Gives (if b then True else False)

@@ -29,6 +29,7 @@ fn sizes(values: &[Value]) -> u64
 }
 
 impl<'a> Call<'a> {
+    /// A call of a method on a receiver, with its arguments and the turns that are left.
     pub fn new(
         alloc: Global,
         on: &'a Value,

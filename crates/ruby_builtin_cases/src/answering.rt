@@ -20,6 +20,7 @@ fn push_plain(out: &mut Vec<u8>, bytes: &[u8]) -> Result<(), AllocError> {
     Ok(())
 }
 
+/// What the call that a case asks for answers, as the case would write it.
 pub fn said(alloc: Global, asked: &ReadCall) -> Result<Vec<u8>, AllocError> {
     let mut out = Vec::new(alloc);
     match call(

@@ -1,4 +1,5 @@
-//! Tries the built-in methods on the cases of its standard input, which were worked out by hand, and says how many hold.
+//! Tries the built-in methods on the cases of its standard input, which were worked out by hand, and says how many
+//! hold.
 //!
 //! A case is a paragraph of two lines:
 //!

@@ -12,10 +12,12 @@ use Rattle.ruby_builtin_base.specs.Characters.{characters}
 use Rattle.ruby_builtin_base.specs.Printed.{inspect, to_s}
 use Rattle.ruby_builtin_base.specs.Results.{count, truth}
 
+-- Whether one level of a value is nil.
 abbrev pub is_nil_layer : Value-F Value → Bool
 is_nil_layer layer.Nil = true
 is_nil_layer other = false
 
+-- Whether a value is nil.
 abbrev pub is_nil : Value → Bool
 is_nil on = is_nil_layer (out-Value on)
 
@@ -30,11 +32,13 @@ value_rows =
     ∷ (codes "to_s", λ on. takes_none (Gives (Str (to_s on))))
     ∷ []
 
+-- The rows of Symbol.
 abbrev pub sym_rows : List (List ℕ × (List ℕ → List Value → Answer))
 sym_rows =
     (codes "length", λ name. takes_none (count (length (characters name))))
     ∷ (codes "to_sym", λ name. takes_none (Gives (Sym name)))
     ∷ []
 
+-- The rows of Module.
 abbrev pub module_rows : List (List ℕ × (List (List ℕ) → List Value → Answer))
 module_rows = (codes "name", λ path. takes_none (Gives (Str (path_text path)))) ∷ []

@@ -8,10 +8,12 @@ use Rattle.ruby_types.specs.declared.value.Value.TheOpen as layer
 abbrev pub mixed : ℕ → ℕ → ℕ
 mixed so_far next = (so_far * 1099511628211 % 2 ^ 64 + next) % 2 ^ 64
 
+-- A number mixed with the bytes of a text, one after another.
 abbrev pub mixed_all : ℕ → List ℕ → ℕ
 mixed_all so_far [] = so_far
 mixed_all so_far (next ∷ others) = mixed_all (mixed so_far next) others
 
+-- A number mixed with the names of a path.
 abbrev pub mixed_names : ℕ → List (List ℕ) → ℕ
 mixed_names so_far [] = so_far
 mixed_names so_far (name ∷ names) = mixed_names (mixed_all so_far name) names
@@ -30,5 +32,6 @@ digest_layer (layer.Hash pairs) = mixed 7 (length pairs)
 digest_layer (layer.Module path) = mixed_names 8 path
 digest_layer (layer.Object class variables) = mixed_names 9 class
 
+-- The digest of a value; the pairs of a hash count in any order.
 abbrev pub digest : Value → ℕ
 digest = fold-Value ℕ digest_layer

@@ -53,6 +53,7 @@ impl Indexed {
         }
     }
 
+    /// The pairs in the order of their first assignment.
     pub fn into_pairs(self) -> Vec<(Value, Value)>
         ensures { result.items ≡ self.pairs.items }
     {

@@ -15,6 +15,7 @@ use Rattle.ruby_builtin_numbers.specs.Division.{floor_div, floor_rem}
 abbrev pub divided : ℤ → Answer → Answer
 divided m answer = if int_eq m (pos 0) then Raises class.ZeroDivision (codes "divided by 0") else answer
 
+-- A row of one Int that isn't zero; zero raises ZeroDivisionError.
 abbrev pub takes_divisor : (ℤ → Answer) → List Value → Answer
 takes_divisor row = takes_int (λ m. divided m (row m))
 

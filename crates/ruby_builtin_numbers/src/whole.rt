@@ -3,30 +3,35 @@ ghost use Rattle.std.specs.Int.{w64};
 ghost use Rattle.ruby_builtin_base.specs.Results.{fitted};
 ghost use Rattle.ruby_builtin_numbers.specs.Division as spec;
 
+/// The sum, if it is of 64 bits.
 pub fn sum(n: i64, m: i64) -> Option<i64>
     ensures { result ≡ fitted (n +ℤ m) }
 {
     n.checked_add(m)
 }
 
+/// The difference, if it is of 64 bits.
 pub fn difference(n: i64, m: i64) -> Option<i64>
     ensures { result ≡ fitted (n -ℤ m) }
 {
     n.checked_sub(m)
 }
 
+/// The product, if it is of 64 bits.
 pub fn product(n: i64, m: i64) -> Option<i64>
     ensures { result ≡ fitted (n *ℤ m) }
 {
     n.checked_mul(m)
 }
 
+/// The number with the other sign, if it is of 64 bits.
 pub fn negated(n: i64) -> Option<i64>
     ensures { result ≡ fitted (neg_ℤ n) }
 {
     n.checked_neg()
 }
 
+/// The number without its sign, if it is of 64 bits.
 pub fn magnitude(n: i64) -> Option<i64>
     ensures { result ≡ fitted (pos (unsigned_abs n)) }
 {

@@ -15,8 +15,8 @@
 //! | `TwiceDefined` | the second name, as soon as what stands behind can't go on with it |
 //!
 //! The bytes are cut into tokens by `ruby_token`, and the tokens before the lexer's first fault are read by
-//! `ruby_parse_definition`, one function a rule of the grammar. Of a fault of the lexer and one of the grammar the first
-//! counts, at one place the lexer's.
+//! `ruby_parse_definition`, one function a rule of the grammar. Of a fault of the lexer and one of the grammar the
+//! first counts, at one place the lexer's.
 //!
 //! # An example
 //!

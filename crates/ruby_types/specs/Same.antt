@@ -25,6 +25,7 @@ same_counts test (p ∷ ps) own other =
 abbrev pub same_pair : {C : Type 0} → (C → Value → Bool) → C × C → Value × Value → Bool
 same_pair test p q = test p.0 q.0 && test p.1 q.1
 
+-- A pair of children as the pair of their values.
 abbrev pub pair_of : {C : Type 0} → (C → Value) → C × C → Value × Value
 pair_of value p = (value p.0, value p.1)
 

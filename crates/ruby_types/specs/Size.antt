@@ -5,6 +5,7 @@ use Rattle.ruby_types.specs.Paths.{path_text}
 use Rattle.ruby_types.specs.declared.value.Value.{Value, Value-F, fold-Value}
 use Rattle.ruby_types.specs.declared.value.Value.TheOpen as layer
 
+-- The bytes of a printed constant path: `A::B` has 4.
 abbrev pub path_size : List (List ℕ) → ℕ
 path_size path = length (path_text path)
 
@@ -25,8 +26,10 @@ size_layer (layer.Hash pairs) = 16 + sum (map (λ p. p.0 + p.1) pairs)
 size_layer (layer.Module path) = 16 + path_size path
 size_layer (layer.Object class variables) = 16 + (path_size class + sum (map (λ p. p.0 + p.1) variables))
 
+-- The size of a value: 16, and what it holds. `["ab", nil]` has 50.
 abbrev pub size : Value → ℕ
 size = fold-Value ℕ size_layer
 
+-- The sizes of a key and its value.
 abbrev pub pair_size : Value × Value → ℕ
 pair_size p = size p.0 + size p.1

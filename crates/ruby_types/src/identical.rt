@@ -59,6 +59,7 @@ fn identical_items(a: &Items, b: &Items) -> bool
     true
 }
 
+/// Whether both lists have identical keys and values in one order.
 #[cycle(identical)]
 pub fn identical_pairs(a: &Pairs, b: &Pairs) -> bool
     ensures { IsTrue result → a.now ≡ b.now }

@@ -26,6 +26,7 @@ pub enum Task {
     Request(Request),
 }
 
+/// The class of an error (the Ruby documentation of StandardError and its kin). TurnBudget is this project's own.
 #[derive(Clone, Copy, Debug, PartialEq, Eq)]
 pub enum ErrorClass {
     Name,

@@ -2,6 +2,7 @@ use crate::value::{CPath, Text, TextList};
 use lists::Listed;
 use sqlite_items::Boxed;
 
+/// Expressions in text order: the members of an array or the arguments of a call.
 pub type Exprs = Listed<Expr>;
 
 /// The pairs of a hash literal: key and value.
@@ -10,11 +11,13 @@ pub type ExprPairs = Listed<(Expr, Expr)>;
 /// The pieces of a text. No two plain ones stand side by side and none is empty.
 pub type Parts = Listed<Part>;
 
+/// Statements in text order.
 pub type Stmts = Listed<Stmt>;
 
 /// The arms of an `if`: each condition with its statements.
 pub type Arms = Listed<(Expr, Stmts)>;
 
+/// Definitions in text order.
 pub type Defs = Listed<Def>;
 
 /// A constant as it is written: `::A::B` has `top`.
@@ -24,6 +27,7 @@ pub struct ConstRef {
     pub path: CPath,
 }
 
+/// An expression. `a != b` is a Not of the call `==`, `-e` the call `-@`, `a[b]` the call `[]`.
 #[cycle(expr)]
 #[derive(Drop)]
 pub enum Expr {
@@ -50,6 +54,7 @@ pub enum Expr {
     Choose(Boxed<Expr>, Boxed<Expr>, Boxed<Expr>),
 }
 
+/// A piece of a text.
 #[cycle(expr)]
 #[derive(Drop)]
 pub enum Part {
@@ -58,6 +63,7 @@ pub enum Part {
     Inside(Expr),
 }
 
+/// A statement. `unless` is an If of a Not.
 #[derive(Drop)]
 pub enum Stmt {
     Expr(Expr),
@@ -79,6 +85,7 @@ pub enum Stmt {
     },
 }
 
+/// A definition of a file, a module or a class.
 #[derive(Drop)]
 pub enum Def {
     Module {
