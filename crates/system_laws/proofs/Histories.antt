@@ -17,7 +17,8 @@ use Rattle.system_events.specs.declared.event.Entry.{Entry}
 use Rattle.system_events.specs.declared.event.Kept.{Kept}
 use Rattle.system_events.specs.declared.event.Kept.TheVariants.{Define, Reload, Begin, End}
 use Rattle.system_events.specs.Facts.{Facts, SameIsEqual}
-use Rattle.system_events.specs.State.{State, is_in, request_at, want_at, purpose_of, in_table, same_want, is_that, is_wanted}
+use Rattle.system_events.specs.State.{State, is_in, request_at, want_at, purpose_of, in_table, same_want, is_that}
+use Rattle.system_events.specs.State.{is_wanted}
 use Rattle.system_events.specs.Guards.{guard_of}
 use Rattle.system_events.specs.Steps.{effect, pair_of, IsReply}
 use Rattle.system_events.specs.Legal.{start, IsStep, after_from, after, IsLegal}
