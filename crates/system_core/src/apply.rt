@@ -1,5 +1,6 @@
 //! Entering an event, or refusing it.
-ghost use Rattle.std.specs.Prelude.{◌≡◌, ◌<◌, ◌≤◌, ◌+◌, ◌-◌, length, Some, None};
+ghost use Rattle.std.specs.Prelude.{◌≡◌, ◌≢◌, ℕ, ◌<◌, ◌≤◌, ◌+◌, ◌-◌, length, Some, None};
+ghost use Rattle.system_seats.specs.Seats.{row, mark};
 ghost use Rattle.system_seats.specs.declared.guard.Guard.{Guard};
 ghost use Rattle.system_events.specs.Guards.{guard_of};
 ghost use Rattle.system_events.specs.Steps.{effect, Condition, kept_of, value_of, IsKnown};
@@ -24,6 +25,9 @@ impl<M: Matter> System<M> {
             × (self.new.state ≡ effect M.facts self.old.state event.seat (kept_of event.act)) }
         ensures step { guard_of M.facts self.old.state event.seat (kept_of event.act) ≡ None →
             IsStep M.facts self.old.state (record { seat = event.seat; kept = kept_of event.act }) self.new.state }
+        ensures others { (seat : ℕ) → seat ≢ event.seat →
+            (row self.new.state.seats seat ≡ row self.old.state.seats seat)
+            × (mark self.new.state.seats seat ≡ mark self.old.state.seats seat) }
         ensures room { self.old.room ≤ self.new.room + 1 }
         ensures values { self.old.values ≤ self.new.values + values_used event.act }
         ensures refused { (guard : Guard) →
@@ -46,6 +50,9 @@ impl<M: Matter> System<M> {
         requires known { IsKnown M.facts self.old.state event.act }
         requires passed { guard_of M.facts self.old.state event.seat (kept_of event.act) ≡ None }
         ensures state { self.new.state ≡ effect M.facts self.old.state event.seat (kept_of event.act) }
+        ensures others { (seat : ℕ) → seat ≢ event.seat →
+            (row self.new.state.seats seat ≡ row self.old.state.seats seat)
+            × (mark self.new.state.seats seat ≡ mark self.old.state.seats seat) }
         ensures room { self.new.room ≡ self.old.room - 1 }
         ensures values { self.old.values ≤ self.new.values + values_used event.act }
     {

@@ -70,7 +70,7 @@ impl<M: Matter> System<M> {
         requires { seat < length self.now.state.seats.lock.rows }
         ensures { result ≡ is_wanted M.facts self.now.state seat want.now }
     {
-        match self.section(seat) {
+        match self.section_want(seat) {
             None => false,
             Some(other) => same_want(other, want),
         }

@@ -2,7 +2,8 @@
 //!
 //! A `System` stores its history and, beside it, what a look at the whole history would tell: the seats, the table of
 //! defined tasks, and the counts. Its invariant is that the history is legal and that all else is the state after it
-//! (`IsAfter` of `system_events`), so `System::is_legal` tells that of any system, and `System::laws` what follows
+//! (`IsAfter` of `system_events`), so `System::tells_legal` tells that of any system, and `System::tells_laws` what
+//! follows
 //! from it.
 //!
 //! `apply` enters an event, or refuses it by the first true guard of its row and changes nothing. It takes no memory:
@@ -37,3 +38,5 @@ mod table;
 
 pub use fact::Fact;
 pub use system::System;
+pub use system_events::{Act, Applied, Cause, Counts, Entry, Event, Kept, Matter, Want};
+pub use system_seats::{Guard, SystemRow};

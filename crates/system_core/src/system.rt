@@ -131,7 +131,7 @@ impl<M: Matter> System<M> {
     }
 
     /// What the seat's section is for: the want of its Seek, or without one of its Take.
-    pub fn section(&self, seat: u32) -> Option<&Want<M>>
+    pub fn section_want(&self, seat: u32) -> Option<&Want<M>>
         requires { seat < length self.now.state.seats.lock.rows }
         ensures { option_map (λ want. want.now) result ≡ section_want self.now.state seat }
     {
@@ -139,7 +139,7 @@ impl<M: Matter> System<M> {
     }
 
     /// The request that the seat runs.
-    pub fn request(&self, seat: u32) -> Option<&M::Request>
+    pub fn running_request(&self, seat: u32) -> Option<&M::Request>
         requires { seat < length self.now.state.seats.lock.rows }
         ensures { option_map (λ request. request.now) result ≡ running_request self.now.state seat }
     {
@@ -162,14 +162,14 @@ impl<M: Matter> System<M> {
     }
 
     /// The history is legal, and the state is the one that it leaves, whatever was done before.
-    pub fn is_legal(&self)
+    pub fn tells_legal(&self)
         ensures { (seats : ℕ) × IsAfter M.facts seats self.now.state }
     {
         let _ = &self.entries;
     }
 
     /// What follows of a legal history and the state after it.
-    pub fn laws(&self)
+    pub fn tells_laws(&self)
         ensures right { IsRight M.facts self.now.state.history }
         ensures exclusive { IsExclusive self.now.state.seats }
         ensures may_take { MayTake M.facts self.now.state }
@@ -179,7 +179,7 @@ impl<M: Matter> System<M> {
         ensures sections { AreOpened self.now.state }
         ensures steady { AreSteady self.now.state }
     {
-        self.is_legal();
+        self.tells_legal();
         every_legal_history::<M>();
     }
 }

@@ -12,7 +12,8 @@ needs_itself a b x is_a is_b = subst (Needs asked_by a) (is_a ∙ sym is_b) itse
 -- C needs B
 pub needs_b : (a b : Letter) → a ≡ C → b ≡ B → Needs asked_by a b
 needs_b a b is_a is_b =
-    subst (λ x. Needs asked_by x b) (sym is_a) (subst (Needs asked_by C) (sym is_b) (through C B itself (0, omega arith, refl)))
+    subst (λ x. Needs asked_by x b) (sym is_a)
+    (subst (Needs asked_by C) (sym is_b) (through C B itself (0, omega arith, refl)))
 
 -- every letter is a task
 pub all_tasks : (letter : Letter) → Contains (A ∷ B ∷ C ∷ []) letter

@@ -29,7 +29,8 @@ asked_by C = B ∷ []
 asked_by _ = []
 
 -- A program is a number, which is also its stamps and its changed bytes. A letter's value is the sum of the program's
--- number and its own. A request is a letter, asks for that letter alone, and is answered by its value, of so many bytes.
+-- number and its own. A request is a letter, asks for that letter alone, and is answered by its value, of so many
+-- bytes.
 abbrev pub letters : Facts Letter ℕ ℕ Letter ℕ ℕ
 letters = record {
   same_task = same_letter;

@@ -56,11 +56,10 @@ fn try_event(system: &mut System<Letters>, event: Event<Letters>) -> Result<Answ
 }
 
 // Defines a letter that the sought one needs.
-#[tactic(auto, using(crate::proofs::Conditions::may_define))]
 fn define(system: &mut System<Letters>, seat: u32, letter: Letter) -> Result<Answer, AllocError>
     requires { seat < length system.old.state.seats.lock.rows }
 {
-    let sought = match system.section(seat) {
+    let sought = match system.section_want(seat) {
         Some(Want::Load(sought)) => *sought,
         _ => return Ok(Answer::NoStep),
     };
@@ -80,11 +79,10 @@ fn has_letter(system: &System<Letters>, letter: Letter) -> bool
 }
 
 // Ends the request that the seat runs, with its reply, if the table has the letter.
-#[tactic(auto, using(crate::proofs::Conditions::may_end))]
 fn end(system: &mut System<Letters>, seat: u32) -> Result<Answer, AllocError>
     requires { seat < length system.old.state.seats.lock.rows }
 {
-    let request = match system.request(seat) {
+    let request = match system.running_request(seat) {
         None => return end_nothing(system, seat),
         Some(request) => *request,
     };

@@ -2,6 +2,7 @@ pub mod Exclusion
 pub mod Keeps
 pub mod Histories
 pub mod Lists
+pub mod Others
 pub mod Runs
 pub mod Sections
 pub mod Table

@@ -18,6 +18,7 @@ use Rattle.system_events.specs.Legal.{after}
 
 -- EXCLUSION AND STABILITY
 
+-- what the seats keep of one another
 pub record IsExclusive (s : Seats) : Type 0 where
   -- beside an exclusive seat no other one has shares
   pub alone : (owner k : ℕ) → is_owner s owner ≡ true → k ≢ owner → (row s k).shares ≡ 0

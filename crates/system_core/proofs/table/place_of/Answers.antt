@@ -20,7 +20,7 @@ returns-then-defines-clause-found g c = λ i same.
       walks.0,
       ap (names g.M.Matter.facts c.args.task.now)
           (task_at_place g.M.Matter.facts g.met.M.Matter.same_is_equal c.args.entries.now c.args.facts.now
-              c.in-Some.place
+          c.in-Some.place
           c.index-facts-place.result walks.0)
           ∙ (sym c.defines.ensures ∙ c.if-defines.true),
     )

@@ -1,5 +1,7 @@
 use Rattle.std.proofs.Common.{◌≡◌, ◌-◌, min, cond, is_some, length, vec_len, vec_capacity, sym, ap, ◌∙◌}
 use Rattle.std.proofs.Common.{arith}
+use Rattle.system_seats.specs.Seats.{row, mark}
+use Rattle.system_laws.proofs.Others.{rows_stay, marks_stay}
 use Rattle.system_core.specs.Keeping.{values_used}
 use Rattle.system_core.specs.Seated.{seat_guard}
 use Rattle.system_core.proofs.Fields.{used_is, some_room, kept_after}
@@ -52,3 +54,11 @@ returns-clause-values g c =
     let used : values_used c.args.event.act ≡ cond (is_some c.split_act-kept.result.1) 1 0 =
     used_is c.args.event.act ∙ ap (λ o. cond (is_some o) 1 0) (sym c.split_act-kept.ensures.value) in
     omega (arith, values, used, c.move_table.ensures.facts_left, c.move_table.ensures.places_left)
+
+pub returns-clause-others : goal.returns-clause-others
+returns-clause-others g c = λ seat other. (
+  ap (λ x. row x seat) c.move_seats.ensures ∙ (rows_stay c.self.inside.seats c.len-place.result c.args.event.seat
+      c.split_act-kept.result.0 seat other ∙ ap (λ b. row b.state.seats seat) c.self.view_is),
+  ap (λ x. mark x seat) c.move_seats.ensures ∙ (marks_stay c.self.inside.seats c.len-place.result c.args.event.seat
+      c.split_act-kept.result.0 seat other ∙ ap (λ b. mark b.state.seats seat) c.self.view_is),
+)
