@@ -6,7 +6,8 @@ use Rattle.ruby_builtin_base.specs.Characters.{is_inner, onto, characters, begin
 -- one by the first byte, and one more by each byte that begins one
 pub length-characters : (byte : ℕ) (bytes : List ℕ) → length (characters (byte ∷ bytes)) ≡ beginnings bytes + 1
 length-characters byte [] = refl
-length-characters byte (next ∷ bytes) = by_next (is_inner next) (characters (next ∷ bytes)) (length-characters next bytes)
+length-characters byte (next ∷ bytes) = by_next (is_inner next) (characters (next ∷ bytes))
+    (length-characters next bytes)
   where
     by_next : (inside : Bool) (others : List (List ℕ)) → length others ≡ beginnings bytes + 1 →
         length (onto byte inside others) ≡ (cond inside 0 1 + beginnings bytes) + 1

@@ -1,5 +1,6 @@
 -- How joined texts grow at their end.
-use Rattle.std.proofs.Common.{◌≡◌, ℕ, ◌+◌, ◌<◌, Bool, true, false, List, [], ◌∷◌, ◌++◌, length, map, take, get_or, cond, min, length-append, refl, ap, ◌∙◌, sym, append_assoc, arith}
+use Rattle.std.proofs.Common.{◌≡◌, ℕ, ◌+◌, ◌<◌, Bool, true, false, List, [], ◌∷◌, ◌++◌, length, map, take, get_or, cond}
+use Rattle.std.proofs.Common.{min, length-append, refl, ap, ◌∙◌, sym, append_assoc, arith}
 use Rattle.std.proofs.lemmas.Grind.{common_steps}
 use Rattle.std.proofs.lemmas.List.{take_more}
 use Rattle.ruby_builtin_base.specs.Printed.{joined, pair_text, inspect, inspect_layer, inspect_pair}
@@ -18,7 +19,8 @@ map-push f (x ∷ xs) y = ap (λ t. f x ∷ t) (map-push f xs y)
 grow_first : (o0 o1 o2 o3 x : List ℕ) → o1 ≡ o0 ++ [] → o2 ≡ o1 → o3 ≡ o2 ++ x → o3 ≡ o0 ++ x
 grow_first o0 o1 o2 o3 x a b c = grind (arith, common_steps)
 
-grow_more : (o0 o1 o2 o3 x s t u : List ℕ) → o1 ≡ o0 ++ t → o2 ≡ o1 ++ s → o3 ≡ o2 ++ x → u ≡ t ++ (s ++ x) → o3 ≡ o0 ++ u
+grow_more : (o0 o1 o2 o3 x s t u : List ℕ) → o1 ≡ o0 ++ t → o2 ≡ o1 ++ s → o3 ≡ o2 ++ x → u ≡ t ++ (s ++ x) →
+    o3 ≡ o0 ++ u
 grow_more o0 o1 o2 o3 x s t u a b c d = grind (arith, common_steps)
 
 abbrev pub is_nil : {X : Type 0} → List X → Bool
@@ -35,16 +37,19 @@ grow : {X : Type 0} (f : X → List ℕ) (ys : List X) (x : X) (o0 o1 o2 o3 : Li
     o3 ≡ o0 ++ joined (map f (ys ++ x ∷ []))
 grow f [] x o0 o1 o2 o3 a b c = grow_first o0 o1 o2 o3 (f x) a b c
 grow f (y ∷ ys) x o0 o1 o2 o3 a b c =
-    grow_more o0 o1 o2 o3 (f x) (44 ∷ 32 ∷ []) _ _ a b c (ap joined (map-push f (y ∷ ys) x) ∙ joined-push (f y) (f x) (map f ys))
+    grow_more o0 o1 o2 o3 (f x) (44 ∷ 32 ∷ []) _ _ a b c (ap joined (map-push f (y ∷ ys) x)
+        ∙ joined-push (f y) (f x) (map f ys))
 
 pub joined-more : {X : Type 0} (f : X → List ℕ) (xs : List X) (i : ℕ) (x : X) (o0 o1 o2 o3 : List ℕ) (first : Bool) →
     i < length xs → x ≡ get_or xs i x →
-    (first ≡ is_nil (take i xs)) × (o1 ≡ o0 ++ joined (map f (take i xs))) → o2 ≡ cond first o1 (o1 ++ 44 ∷ 32 ∷ []) → o3 ≡ o2 ++ f x →
+    (first ≡ is_nil (take i xs)) × (o1 ≡ o0 ++ joined (map f (take i xs))) →
+        o2 ≡ cond first o1 (o1 ++ 44 ∷ 32 ∷ []) → o3 ≡ o2 ++ f x →
     (false ≡ is_nil (take (i + 1) xs)) × (o3 ≡ o0 ++ joined (map f (take (i + 1) xs)))
 joined-more f xs i x o0 o1 o2 o3 first h e inv b c =
     rw (take_more xs i x h, ← e) (nil-push (take i xs) x, grow f (take i xs) x o0 o1 o2 o3 inv.1 (rw inv.0 at b) c)
 
-pub pair_steps : (o1 o2 o3 o4 k v : List ℕ) → o2 ≡ o1 ++ k → o3 ≡ o2 ++ 61 ∷ 62 ∷ [] → o4 ≡ o3 ++ v → o4 ≡ o1 ++ pair_text (k, v)
+pub pair_steps : (o1 o2 o3 o4 k v : List ℕ) → o2 ≡ o1 ++ k → o3 ≡ o2 ++ 61 ∷ 62 ∷ [] → o4 ≡ o3 ++ v →
+    o4 ≡ o1 ++ pair_text (k, v)
 pair_steps o1 o2 o3 o4 k v a b c = grind (arith, common_steps)
 
 map-pairs : (f : Value → List ℕ) (ps : List (Value × Value)) →
@@ -58,7 +63,8 @@ inspect-Hash ps =
     ∙ ap (λ x. inspect_layer (map-Value Value (List ℕ) inspect x)) (outs-Hash ps)
     ∙ ap (λ t. 123 ∷ (joined t ++ 125 ∷ [])) (map-pairs inspect ps)
 
-pub inspect-Object : (path : List (List ℕ)) (ps : List (Value × Value)) → inspect (Object path ps) ≡ 35 ∷ 60 ∷ (path_text path ++ 62 ∷ [])
+pub inspect-Object : (path : List (List ℕ)) (ps : List (Value × Value)) →
+    inspect (Object path ps) ≡ 35 ∷ 60 ∷ (path_text path ++ 62 ∷ [])
 inspect-Object path ps =
     fold_out-Value (List ℕ) inspect_layer (Object path ps)
     ∙ ap (λ x. inspect_layer (map-Value Value (List ℕ) inspect x)) (outs-Object path ps)

@@ -14,7 +14,8 @@ pub fn inspect(alloc: Global, value: &Value) -> Result<Text, AllocError>
     Text::from_vec(alloc, out)
 }
 
-/// A value as Ruby's `to_s` shows it: nil is empty, texts and symbols are their text, all else is as `inspect` shows it.
+/// A value as Ruby's `to_s` shows it: nil is empty, texts and symbols are their text, all else is as `inspect` shows
+/// it.
 pub fn to_s(alloc: Global, value: &Value) -> Result<Text, AllocError>
     ensures { IfOk result (λ text. text ≡ spec.to_s value.now) }
 {

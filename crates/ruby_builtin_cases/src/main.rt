@@ -1,4 +1,5 @@
-//! Tries the built-in methods on the cases of its standard input, which were worked out by hand, and says how many hold.
+//! Tries the built-in methods on the cases of its standard input, which were worked out by hand, and says how many
+//! hold.
 //!
 //! A case is a paragraph of two lines:
 //!
@@ -15,6 +16,8 @@
 
 mod answering;
 mod reading;
+#[cfg(test)]
+mod speed;
 
 use std::alloc::{AllocError, Global};
 use std::io;
