@@ -3,7 +3,7 @@
 use Rattle.std.specs.Prelude.{ℕ, List, Option, Some, None}
 use Rattle.ruby_types.specs.declared.value.Value.{Value, Value-F, out-Value}
 use Rattle.ruby_types.specs.declared.value.Value.TheOpen as layer
-use Rattle.ruby_builtin_base.specs.Answers.{Answer, answered, called_of}
+use Rattle.ruby_builtin_base.specs.Answers.{Answer, called_of}
 use Rattle.ruby_builtin_base.specs.Rows.{row_of}
 use Rattle.ruby_builtin_base.specs.declared.call.Call.{Call}
 use Rattle.ruby_builtin_base.specs.declared.called.Called.{Called}

@@ -7,11 +7,10 @@ ghost use Rattle.std.specs.Prelude.{◌≡◌};
 ghost use Rattle.ruby_builtin_base.specs.Answers.{OrMemory, answered};
 ghost use Rattle.ruby_builtin.specs.Rows.{built_in, built_in_called, own_row, own_called};
 
+use ruby_builtin_base::Call;
 pub use ruby_builtin_base::{
     Called, class_name, error_text, inspect, push_inspect, push_to_s, to_s, wrong_count_text,
 };
-
-use ruby_builtin_base::Call;
 use ruby_builtin_common::{call_module, call_sym, call_value};
 use ruby_builtin_numbers::call_int;
 use ruby_types::{Items, Value};

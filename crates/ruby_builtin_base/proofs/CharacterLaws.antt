@@ -1,7 +1,7 @@
 -- How many characters a text has.
-use Rattle.std.proofs.Common.{◌≡◌, ℕ, zero, suc, ◌+◌, ◌<◌, Bool, true, false, cond, List, [], ◌∷◌, length, drop, get_or}
-use Rattle.std.proofs.Common.{drop-cons, add-one, refl, ap, sym, ◌∙◌, arith}
-use Rattle.ruby_builtin_base.specs.Characters.{is_inner, begins_inside, onto, characters, beginnings}
+use Rattle.std.proofs.Common.{◌≡◌, ℕ, ◌+◌, ◌<◌, Bool, true, false, cond, List, [], ◌∷◌, length, drop, get_or}
+use Rattle.std.proofs.Common.{drop-cons, add-one, refl, arith}
+use Rattle.ruby_builtin_base.specs.Characters.{is_inner, onto, characters, beginnings}
 
 -- one by the first byte, and one more by each byte that begins one
 pub length-characters : (byte : ℕ) (bytes : List ℕ) → length (characters (byte ∷ bytes)) ≡ beginnings bytes + 1

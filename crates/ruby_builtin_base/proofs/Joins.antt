@@ -1,11 +1,10 @@
 -- How joined texts grow at their end.
-use Rattle.std.proofs.Common.{◌≡◌, ℕ, suc, ◌+◌, ◌<◌, Bool, true, false, List, [], ◌∷◌, ◌++◌, length, map, take, get_or, cond, min, length-append, refl, ap, ◌∙◌, sym, append_assoc, arith}
+use Rattle.std.proofs.Common.{◌≡◌, ℕ, ◌+◌, ◌<◌, Bool, true, false, List, [], ◌∷◌, ◌++◌, length, map, take, get_or, cond, min, length-append, refl, ap, ◌∙◌, sym, append_assoc, arith}
 use Rattle.std.proofs.lemmas.Grind.{common_steps}
 use Rattle.std.proofs.lemmas.List.{take_more}
 use Rattle.ruby_builtin_base.specs.Printed.{joined, pair_text, inspect, inspect_layer, inspect_pair}
 use Rattle.ruby_types.specs.Paths.{path_text}
-use Rattle.ruby_types.specs.declared.value.Value.{Value, fold_out-Value, out-Value, map-Value}
-use Rattle.ruby_types.specs.declared.value.Value.TheOpen as layer
+use Rattle.ruby_types.specs.declared.value.Value.{Value, fold_out-Value, map-Value}
 use Rattle.ruby_types.specs.declared.value.Value.TheVariants.{Hash, outs-Hash, Object, outs-Object}
 
 pub joined-push : (x y : List ℕ) (xs : List (List ℕ)) → joined ((x ∷ xs) ++ y ∷ []) ≡ joined (x ∷ xs) ++ (44 ∷ 32 ∷ y)

@@ -52,7 +52,7 @@ found_from (row ∷ rows) first zero name place rise at =
     )
 found_from (row ∷ rows) first (suc i) name place rise at =
     let rest = found_from rows (first + 1) i name place (later_rise (row.0, first) (numbered (first + 1) rows) rise)
-        at in
+    at in
     let less : IsLess row.0 name = rise 0 (suc i) (row.0, first) (name, place) (omega arith) refl at in (
       omega (arith, rest.0),
       ap (λ b. cond b (Some row.1) (row_of rows name)) (less_differs row.0 name less) ∙ rest.1,

@@ -41,7 +41,9 @@ fn items_len(items: &[Value]) -> u64
     let mut first = true;
     let mut total = 0u64;
     for item in items {
-        total = total.saturating_add(comma_len(first)).saturating_add(inspect_len(item));
+        total = total
+            .saturating_add(comma_len(first))
+            .saturating_add(inspect_len(item));
         first = false;
     }
     total
@@ -54,7 +56,9 @@ fn pairs_len(pairs: &[(Value, Value)]) -> u64
     let mut first = true;
     let mut total = 0u64;
     for (key, value) in pairs {
-        let pair = inspect_len(key).saturating_add(2).saturating_add(inspect_len(value));
+        let pair = inspect_len(key)
+            .saturating_add(2)
+            .saturating_add(inspect_len(value));
         total = total.saturating_add(comma_len(first)).saturating_add(pair);
         first = false;
     }

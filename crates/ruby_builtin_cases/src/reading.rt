@@ -231,7 +231,10 @@ pub fn call_of(alloc: Global, line: &[u8]) -> Result<Option<ReadCall>, AllocErro
         }
     }
     let Reading {
-        values, name, left, ..
+        values,
+        name,
+        left,
+        ..
     } = reading;
     match (values.as_slice(), name) {
         ([on, args @ ..], Some(name)) => Ok(Some(ReadCall {

@@ -12,12 +12,10 @@ use ruby_types::{CPath, Value, path_size};
 const NAME: u16 = 0;
 
 /// The names of the rows in the order of their bytes.
-static ROWS: [Case; 1] = [
-    Case {
-        name: b"name",
-        code: NAME,
-    },
-];
+static ROWS: [Case; 1] = [Case {
+    name: b"name",
+    code: NAME,
+}];
 
 fn module_table() -> CaseTable<1>
     ensures rows { result ≡ numbered 0 module_rows }
