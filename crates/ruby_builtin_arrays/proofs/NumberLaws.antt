@@ -1,5 +1,6 @@
 -- How the sum of members that are numbers goes on by one member.
-use Rattle.std.proofs.Common.{◌≡◌, ℕ, ◌+◌, ◌<◌, ℤ, ◌+ℤ◌, Option, Some, None, List, [], ◌∷◌, length, get_or, drop, refl, ap}
+use Rattle.std.proofs.Common.{◌≡◌, ℕ, ◌+◌, ◌<◌, ℤ, ◌+ℤ◌, Option, Some, None, List, [], ◌∷◌, length, get_or, drop, refl}
+use Rattle.std.proofs.Common.{ap}
 use Rattle.std.proofs.Common.{◌∙◌, sym, drop-cons, add-one}
 use Rattle.std.proofs.Math.IntN.{+ℤ_assoc}
 use Rattle.std.specs.Prelude.{option_map}

@@ -9,7 +9,8 @@ use Rattle.ruby_builtin_base.specs.Arguments.{takes_none, takes_value, takes_has
 use Rattle.ruby_builtin_base.specs.Printed.{inspect}
 use Rattle.ruby_builtin_base.specs.Results.{count, truth}
 use Rattle.ruby_builtin_arrays.specs.Members.{or_nil}
-use Rattle.ruby_builtin_hashes.specs.Pairs.{value_at, merged, pair_array}
+use Rattle.ruby_builtin_keys.specs.Merging.{merged}
+use Rattle.ruby_builtin_hashes.specs.Pairs.{value_at, pair_array}
 
 -- a value that was looked for with a key
 abbrev pub or_missing : Value → Option Value → Answer
