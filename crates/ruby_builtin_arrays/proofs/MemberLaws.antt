@@ -1,5 +1,5 @@
 -- How long joined texts are, and that members weigh the same in any order.
-use Rattle.std.proofs.Common.{◌≡◌, ℕ, ◌+◌, List, [], ◌∷◌, ◌++◌, length, map, reverse, refl, ap, ◌∙◌, sym, length-append}
+use Rattle.std.proofs.Common.{◌≡◌, ℕ, ◌+◌, List, [], ◌∷◌, ◌++◌, length, map, reverse, refl, ap, ◌∙◌, length-append}
 use Rattle.std.proofs.Common.{arith}
 use Rattle.std.specs.List.{sum}
 use Rattle.std.proofs.lemmas.Grind.{common_steps}

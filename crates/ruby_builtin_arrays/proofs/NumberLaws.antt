@@ -1,5 +1,5 @@
 -- How the sum of members that are numbers goes on by one member.
-use Rattle.std.proofs.Common.{◌≡◌, ℕ, ◌+◌, ◌<◌, ℤ, ◌+ℤ◌, Option, Some, None, List, [], ◌∷◌, length, get_or, drop, refl}
+use Rattle.std.proofs.Common.{◌≡◌, ℕ, ◌+◌, ◌<◌, ℤ, ◌+ℤ◌, Option, Some, None, List, length, get_or, drop, refl}
 use Rattle.std.proofs.Common.{ap}
 use Rattle.std.proofs.Common.{◌∙◌, sym, drop-cons, add-one}
 use Rattle.std.proofs.Math.IntN.{+ℤ_assoc}
@@ -33,6 +33,6 @@ total-more members i so_far next number member whole within here is_int before_i
     ap (λ n. more n (option_map total (numbers (drop (i + 1) members)))) is_next
     ∙ sym (more-before so_far number (numbers (drop (i + 1) members)))
     ∙ ap (λ l. more so_far (option_map total (before l (numbers (drop (i + 1) members)))))
-      (sym (ap out-Value (sym here ∙ is_int) ∙ outs-Int number))
+    (sym (ap out-Value (sym here ∙ is_int) ∙ outs-Int number))
     ∙ ap (λ o. more so_far (option_map total o)) (sym (numbers-drop members i member within))
     ∙ before_it

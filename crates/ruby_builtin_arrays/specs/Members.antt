@@ -1,6 +1,6 @@
 -- What the methods of Array make of its members (the Ruby documentation of Array).
 use Rattle.std.specs.Prelude.{ℕ, ℤ, pos, ◌-◌, int_lt, unsigned_abs, if◌then◌else◌, slice_get, reverse, length, ◌+◌}
-use Rattle.std.specs.Prelude.{Bool, true, false, ◌||◌, Option, Some, None, List, [], ◌∷◌, ◌++◌}
+use Rattle.std.specs.Prelude.{Bool, true, false, Option, Some, None, List, [], ◌∷◌, ◌++◌}
 use Rattle.std.specs.List.{list_any}
 use Rattle.ruby_types.specs.Same.{same}
 use Rattle.ruby_types.specs.declared.value.Value.{Value, Value-F, out-Value}

@@ -1,4 +1,4 @@
-use Rattle.std.proofs.Common.{◌≡◌, take, drop, min, map, ◌-◌, ◌^◌, ◌++◌}
+use Rattle.std.proofs.Common.{◌≡◌, drop}
 use Rattle.std.specs.List.{list_any}
 use Rattle.ruby_builtin_arrays.specs.Members as spec
 use Rattle.ruby_builtin_arrays.proofs.joining.has_array.Given as goal

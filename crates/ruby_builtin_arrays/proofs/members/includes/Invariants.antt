@@ -1,7 +1,6 @@
-use Rattle.std.proofs.Common.{◌≡◌, take, drop, min, map, ◌-◌, ◌^◌, ◌++◌}
+use Rattle.std.proofs.Common.{◌≡◌, drop}
 use Rattle.std.specs.List.{list_any}
 use Rattle.ruby_types.specs.Same.{same}
-use Rattle.ruby_builtin_arrays.specs.Members as spec
 use Rattle.ruby_builtin_arrays.proofs.members.includes.Given as goal
 
 abbrev pub invariant-loop-member : goal.invariant-loop-member

@@ -1,4 +1,4 @@
-use Rattle.std.proofs.Common.{◌≡◌, take, drop, min, map, ◌-◌, ◌^◌, ◌++◌}
+use Rattle.std.proofs.Common.{◌≡◌, take}
 use Rattle.std.specs.List.{filter}
 use Rattle.ruby_builtin_arrays.specs.Members as spec
 use Rattle.ruby_builtin_arrays.proofs.members.present.Given as goal

@@ -1,4 +1,4 @@
-use Rattle.std.proofs.Common.{◌≡◌, take, drop, min, map, ◌-◌, ◌^◌, ◌++◌}
+use Rattle.std.proofs.Common.{◌≡◌, take, ◌++◌}
 use Rattle.ruby_builtin_arrays.proofs.members.push_copies.Given as goal
 
 abbrev pub invariant-loop-member : goal.invariant-loop-member
