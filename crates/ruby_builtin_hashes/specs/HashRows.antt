@@ -3,7 +3,7 @@ use Rattle.std.specs.Prelude.{ℕ, nat_eq, length, map, is_some, unwrap_or, Opti
 use Rattle.std.specs.Prelude.{codes}
 use Rattle.ruby_types.specs.declared.value.Value.{Value}
 use Rattle.ruby_types.specs.declared.request.ErrorClass.TheVariants as class
-use Rattle.ruby_types.specs.declared.value.Value.TheVariants.{Nil, Array, Hash}
+use Rattle.ruby_types.specs.declared.value.Value.TheVariants.{Array, Hash}
 use Rattle.ruby_builtin_base.specs.Answers.{Answer, Gives, Raises, WrongCount}
 use Rattle.ruby_builtin_base.specs.Arguments.{takes_none, takes_value, takes_hash}
 use Rattle.ruby_builtin_base.specs.Printed.{inspect}

@@ -1,4 +1,4 @@
-use Rattle.std.proofs.Common.{◌≡◌, take, drop, min, map, ◌-◌, ◌^◌}
+use Rattle.std.proofs.Common.{◌≡◌, drop}
 use Rattle.ruby_builtin_hashes.specs.Pairs as spec
 use Rattle.ruby_builtin_hashes.proofs.finding.value_at.Given as goal
 

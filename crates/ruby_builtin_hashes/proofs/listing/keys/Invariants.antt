@@ -1,4 +1,4 @@
-use Rattle.std.proofs.Common.{◌≡◌, take, drop, min, map, ◌-◌, ◌^◌}
+use Rattle.std.proofs.Common.{◌≡◌, take, map}
 use Rattle.ruby_types.specs.declared.value.Value.{Value}
 use Rattle.ruby_builtin_hashes.proofs.listing.keys.Given as goal
 

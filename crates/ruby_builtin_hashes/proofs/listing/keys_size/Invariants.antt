@@ -1,4 +1,4 @@
-use Rattle.std.proofs.Common.{◌≡◌, take, drop, min, map, ◌-◌, ◌^◌}
+use Rattle.std.proofs.Common.{◌≡◌, take, min, map, ◌-◌, ◌^◌}
 use Rattle.std.specs.List.{sum}
 use Rattle.ruby_types.specs.Size.{size}
 use Rattle.ruby_types.specs.declared.value.Value.{Value}

@@ -1,4 +1,4 @@
-use Rattle.std.proofs.Common.{◌≡◌, take, drop, min, map, ◌-◌, ◌^◌}
+use Rattle.std.proofs.Common.{◌≡◌, take, map}
 use Rattle.ruby_builtin_hashes.specs.Pairs as spec
 use Rattle.ruby_builtin_hashes.proofs.listing.pair_arrays.Given as goal
 
