@@ -16,6 +16,8 @@
 
 mod answering;
 mod reading;
+#[cfg(test)]
+mod speed;
 
 use std::alloc::{AllocError, Global};
 use std::io;

@@ -1,0 +1,3 @@
+pub mod ArrayRows
+pub mod Members
+pub mod Numbers

@@ -1,0 +1,2 @@
+pub mod HashRows
+pub mod Pairs
