@@ -16,6 +16,7 @@ use Rattle.ruby_builtin_arrays.specs.Numbers.{numbers, total, least, greatest}
 abbrev pub sized : ℤ → Answer → Answer
 sized n answer = if int_lt n (pos 0) then Raises class.Argument (codes "negative size") else answer
 
+-- A row of one Int that is a number of members; one below 0 raises ArgumentError.
 abbrev pub takes_size : (ℕ → Answer) → List Value → Answer
 takes_size row = takes_int (λ n. sized n (row (unsigned_abs n)))
 
@@ -24,6 +25,7 @@ abbrev pub of_numbers : {X : Type 0} → (X → Answer) → Option X → Answer
 of_numbers answer None = WrongArgument
 of_numbers answer (Some x) = answer x
 
+-- A number, or nil where there is none.
 abbrev pub int_or_nil : Option ℤ → Value
 int_or_nil None = Nil
 int_or_nil (Some number) = Int number

@@ -24,6 +24,7 @@ member_at members place =
 abbrev pub includes : List Value → Value → Bool
 includes members value = list_any (λ member. same member value) members
 
+-- Whether one level of a value isn't nil.
 abbrev pub is_present_layer : Value-F Value → Bool
 is_present_layer layer.Nil = false
 is_present_layer other = true
@@ -32,10 +33,12 @@ is_present_layer other = true
 abbrev pub is_present : Value → Bool
 is_present value = is_present_layer (out-Value value)
 
+-- Whether one level of a value is an array.
 abbrev pub is_array_layer : Value-F Value → Bool
 is_array_layer (layer.Array members) = true
 is_array_layer other = false
 
+-- Whether a value is an array.
 abbrev pub is_array : Value → Bool
 is_array value = is_array_layer (out-Value value)
 

@@ -19,10 +19,12 @@ abbrev pub total : List ℤ → ℤ
 total [] = pos 0
 total (number ∷ others) = number +ℤ total others
 
+-- The least of some numbers, if there is one.
 abbrev pub least : List ℤ → Option ℤ
 least [] = None
 least (number ∷ others) = Some (best_of int_lt number others)
 
+-- The greatest of some numbers, if there is one.
 abbrev pub greatest : List ℤ → Option ℤ
 greatest [] = None
 greatest (number ∷ others) = Some (best_of (λ m n. int_lt n m) number others)

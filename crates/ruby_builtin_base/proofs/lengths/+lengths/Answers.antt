@@ -19,5 +19,5 @@ items_len-loop-item-preserved t c =
 pub pairs_len-loop-key-preserved : goal.pairs_len-loop-key-preserved
 pairs_len-loop-key-preserved t c =
     length-joined-more inspect_pair _ _ c.loop-key-item.result _ _ c.saturating_add-pair.result _ _ _
-        (omega arith) c.loop-key-item.is
+    (omega arith) c.loop-key-item.is
     c.loop-key.invariant c.comma_len.ensures (omega (arith, length-pair c.loop-key-item.result)) (omega arith)
