@@ -15,6 +15,7 @@ pub use ruby_builtin_base::{
 use ruby_builtin_common::{call_module, call_sym, call_value};
 use ruby_builtin_hashes::call_hash;
 use ruby_builtin_numbers::call_int;
+use ruby_builtin_texts::call_str;
 use ruby_types::{Items, Value};
 use std::alloc::Global;
 
@@ -37,6 +38,7 @@ fn call_own(call: &Call, on: &Value) -> Called
 {
     match on {
         Value::Int(number) => call_int(call, *number),
+        Value::Str(text) => call_str(call, text),
         Value::Sym(name) => call_sym(call, name),
         Value::Array(items) => call_array(call, items),
         Value::Hash(pairs) => call_hash(call, pairs),
