@@ -1,5 +1,6 @@
 -- The built-in methods: the rows of the receiver's own kind, and behind them those that every value has. The tables
--- are `int_rows`, `sym_rows`, `module_rows` and `value_rows`, which name each method with what it comes to.
+-- are `int_rows`, `str_rows`, `sym_rows`, `array_rows`, `hash_rows`, `module_rows` and `value_rows`, which name each
+-- method with what it comes to.
 use Rattle.std.specs.Prelude.{ℕ, List, Option, Some, None}
 use Rattle.ruby_types.specs.declared.value.Value.{Value, Value-F, out-Value}
 use Rattle.ruby_types.specs.declared.value.Value.TheOpen as layer
@@ -8,8 +9,11 @@ use Rattle.ruby_builtin_base.specs.Rows.{row_of}
 use Rattle.ruby_builtin_base.specs.declared.call.Call.{Call}
 use Rattle.ruby_builtin_base.specs.declared.called.Called.{Called}
 use Rattle.ruby_builtin_base.specs.declared.called.Called.TheVariants.{NoMethod}
+use Rattle.ruby_builtin_arrays.specs.ArrayRows.{array_rows}
+use Rattle.ruby_builtin_hashes.specs.HashRows.{hash_rows}
 use Rattle.ruby_builtin_common.specs.CommonRows.{value_rows, sym_rows, module_rows}
 use Rattle.ruby_builtin_numbers.specs.IntRows.{int_rows}
+use Rattle.ruby_builtin_texts.specs.StrRows.{str_rows}
 
 -- what a method comes to, by its arguments
 abbrev pub Method : Type 0
@@ -23,7 +27,10 @@ at_receiver on (Some row) = Some (row on)
 -- the method of this name among those of the receiver's own kind
 abbrev pub own_layer : Value-F Value → List ℕ → Option Method
 own_layer (layer.Int number) name = at_receiver number (row_of int_rows name)
+own_layer (layer.Str text) name = at_receiver text (row_of str_rows name)
 own_layer (layer.Sym symbol) name = at_receiver symbol (row_of sym_rows name)
+own_layer (layer.Array items) name = at_receiver items (row_of array_rows name)
+own_layer (layer.Hash pairs) name = at_receiver pairs (row_of hash_rows name)
 own_layer (layer.Module path) name = at_receiver path (row_of module_rows name)
 own_layer other name = None
 

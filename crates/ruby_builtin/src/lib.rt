@@ -7,12 +7,15 @@ ghost use Rattle.std.specs.Prelude.{◌≡◌};
 ghost use Rattle.ruby_builtin_base.specs.Answers.{OrMemory, answered};
 ghost use Rattle.ruby_builtin.specs.Rows.{built_in, built_in_called, own_row, own_called};
 
+use ruby_builtin_arrays::call_array;
 use ruby_builtin_base::Call;
 pub use ruby_builtin_base::{
     Called, class_name, error_text, inspect, push_inspect, push_to_s, to_s, wrong_count_text,
 };
 use ruby_builtin_common::{call_module, call_sym, call_value};
+use ruby_builtin_hashes::call_hash;
 use ruby_builtin_numbers::call_int;
+use ruby_builtin_texts::call_str;
 use ruby_types::{Items, Value};
 use std::alloc::Global;
 
@@ -35,7 +38,10 @@ fn call_own(call: &Call, on: &Value) -> Called
 {
     match on {
         Value::Int(number) => call_int(call, *number),
+        Value::Str(text) => call_str(call, text),
         Value::Sym(name) => call_sym(call, name),
+        Value::Array(items) => call_array(call, items),
+        Value::Hash(pairs) => call_hash(call, pairs),
         Value::Module(path) => call_module(call, path),
         _ => Called::NoMethod,
     }

@@ -8,7 +8,7 @@ use Rattle.ruby_types.specs.Paths.{path_text}
 use Rattle.ruby_types.specs.declared.value.Value.{Value, fold_out-Value, map-Value}
 use Rattle.ruby_types.specs.declared.value.Value.TheVariants.{Hash, outs-Hash, Object, outs-Object}
 
--- One text more at the end of joined texts stands behind a comma: for loops over members.
+-- a member more behind others
 pub joined-push : (x y : List ℕ) (xs : List (List ℕ)) → joined ((x ∷ xs) ++ y ∷ []) ≡ joined (x ∷ xs) ++ (44 ∷ 32 ∷ y)
 joined-push x y [] = refl
 joined-push x y (z ∷ zs) = ap (λ t. x ++ (44 ∷ 32 ∷ t)) (joined-push z y zs) ∙ sym (append_assoc x _ _)
@@ -24,7 +24,6 @@ grow_more : (o0 o1 o2 o3 x s t u : List ℕ) → o1 ≡ o0 ++ t → o2 ≡ o1 ++
     o3 ≡ o0 ++ u
 grow_more o0 o1 o2 o3 x s t u a b c d = grind (arith, common_steps)
 
--- Whether a list is empty, as loops keep it in their flag of the first member.
 abbrev pub is_nil : {X : Type 0} → List X → Bool
 is_nil [] = true
 is_nil (x ∷ xs) = false
@@ -40,18 +39,18 @@ grow : {X : Type 0} (f : X → List ℕ) (ys : List X) (x : X) (o0 o1 o2 o3 : Li
 grow f [] x o0 o1 o2 o3 a b c = grow_first o0 o1 o2 o3 (f x) a b c
 grow f (y ∷ ys) x o0 o1 o2 o3 a b c =
     grow_more o0 o1 o2 o3 (f x) (44 ∷ 32 ∷ []) _ _ a b c (ap joined (map-push f (y ∷ ys) x)
-    ∙ joined-push (f y) (f x) (map f ys))
+        ∙ joined-push (f y) (f x) (map f ys))
 
--- One more member keeps a loop's invariant over joined texts.
+-- one step of writing members: with `, ` before it, unless it is the first
 pub joined-more : {X : Type 0} (f : X → List ℕ) (xs : List X) (i : ℕ) (x : X) (o0 o1 o2 o3 : List ℕ) (first : Bool) →
     i < length xs → x ≡ get_or xs i x →
     (first ≡ is_nil (take i xs)) × (o1 ≡ o0 ++ joined (map f (take i xs))) →
-    o2 ≡ cond first o1 (o1 ++ 44 ∷ 32 ∷ []) → o3 ≡ o2 ++ f x →
+        o2 ≡ cond first o1 (o1 ++ 44 ∷ 32 ∷ []) → o3 ≡ o2 ++ f x →
     (false ≡ is_nil (take (i + 1) xs)) × (o3 ≡ o0 ++ joined (map f (take (i + 1) xs)))
 joined-more f xs i x o0 o1 o2 o3 first h e inv b c =
     rw (take_more xs i x h, ← e) (nil-push (take i xs) x, grow f (take i xs) x o0 o1 o2 o3 inv.1 (rw inv.0 at b) c)
 
--- A key, an arrow and a value written one after another are a pair's text.
+-- a pair as it is written piece by piece
 pub pair_steps : (o1 o2 o3 o4 k v : List ℕ) → o2 ≡ o1 ++ k → o3 ≡ o2 ++ 61 ∷ 62 ∷ [] → o4 ≡ o3 ++ v →
     o4 ≡ o1 ++ pair_text (k, v)
 pair_steps o1 o2 o3 o4 k v a b c = grind (arith, common_steps)
@@ -61,14 +60,14 @@ map-pairs : (f : Value → List ℕ) (ps : List (Value × Value)) →
 map-pairs f [] = refl
 map-pairs f (p ∷ ps) = ap (λ t. pair_text (f p.0, f p.1) ∷ t) (map-pairs f ps)
 
--- How a hash is printed, read off the definition.
+-- a hash as `inspect` shows it
 pub inspect-Hash : (ps : List (Value × Value)) → inspect (Hash ps) ≡ 123 ∷ (joined (map inspect_pair ps) ++ 125 ∷ [])
 inspect-Hash ps =
     fold_out-Value (List ℕ) inspect_layer (Hash ps)
     ∙ ap (λ x. inspect_layer (map-Value Value (List ℕ) inspect x)) (outs-Hash ps)
     ∙ ap (λ t. 123 ∷ (joined t ++ 125 ∷ [])) (map-pairs inspect ps)
 
--- How an object is printed, read off the definition.
+-- an object as `inspect` shows it
 pub inspect-Object : (path : List (List ℕ)) (ps : List (Value × Value)) →
     inspect (Object path ps) ≡ 35 ∷ 60 ∷ (path_text path ++ 62 ∷ [])
 inspect-Object path ps =
@@ -104,13 +103,13 @@ pub length-pair : (p : Value × Value) →
     length (inspect_pair p) ≡ length (inspect p.0) + (2 + length (inspect p.1))
 length-pair p = omega (arith, length-append (inspect p.0) (61 ∷ 62 ∷ inspect p.1))
 
--- How long a printed hash is, for measuring before it is written.
+-- a hash is as long as its pairs, and two bytes more
 pub length-inspect-Hash : (ps : List (Value × Value)) →
     length (inspect (Hash ps)) ≡ length (joined (map inspect_pair ps)) + 2
 length-inspect-Hash ps = ap length (inspect-Hash ps)
     ∙ (omega (arith, length-append (joined (map inspect_pair ps)) (125 ∷ [])))
 
--- How long a printed object is, for measuring before it is written.
+-- an object is as long as its class's path, and three bytes more
 pub length-inspect-Object : (path : List (List ℕ)) (ps : List (Value × Value)) →
     length (inspect (Object path ps)) ≡ length (path_text path) + 3
 length-inspect-Object path ps = ap length (inspect-Object path ps)

@@ -1,0 +1,5 @@
+mod CharacterLaws
+mod NumeralLaws
+mod PartLaws
+mod SearchLaws
+mod SizeLaws
