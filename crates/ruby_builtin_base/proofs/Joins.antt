@@ -24,6 +24,7 @@ grow_more : (o0 o1 o2 o3 x s t u : List ℕ) → o1 ≡ o0 ++ t → o2 ≡ o1 ++
     o3 ≡ o0 ++ u
 grow_more o0 o1 o2 o3 x s t u a b c d = grind (arith, common_steps)
 
+-- Whether a list is empty, as loops keep it in their flag of the first member.
 abbrev pub is_nil : {X : Type 0} → List X → Bool
 is_nil [] = true
 is_nil (x ∷ xs) = false
@@ -39,13 +40,13 @@ grow : {X : Type 0} (f : X → List ℕ) (ys : List X) (x : X) (o0 o1 o2 o3 : Li
 grow f [] x o0 o1 o2 o3 a b c = grow_first o0 o1 o2 o3 (f x) a b c
 grow f (y ∷ ys) x o0 o1 o2 o3 a b c =
     grow_more o0 o1 o2 o3 (f x) (44 ∷ 32 ∷ []) _ _ a b c (ap joined (map-push f (y ∷ ys) x)
-        ∙ joined-push (f y) (f x) (map f ys))
+    ∙ joined-push (f y) (f x) (map f ys))
 
 -- one step of writing members: with `, ` before it, unless it is the first
 pub joined-more : {X : Type 0} (f : X → List ℕ) (xs : List X) (i : ℕ) (x : X) (o0 o1 o2 o3 : List ℕ) (first : Bool) →
     i < length xs → x ≡ get_or xs i x →
     (first ≡ is_nil (take i xs)) × (o1 ≡ o0 ++ joined (map f (take i xs))) →
-        o2 ≡ cond first o1 (o1 ++ 44 ∷ 32 ∷ []) → o3 ≡ o2 ++ f x →
+    o2 ≡ cond first o1 (o1 ++ 44 ∷ 32 ∷ []) → o3 ≡ o2 ++ f x →
     (false ≡ is_nil (take (i + 1) xs)) × (o3 ≡ o0 ++ joined (map f (take (i + 1) xs)))
 joined-more f xs i x o0 o1 o2 o3 first h e inv b c =
     rw (take_more xs i x h, ← e) (nil-push (take i xs) x, grow f (take i xs) x o0 o1 o2 o3 inv.1 (rw inv.0 at b) c)

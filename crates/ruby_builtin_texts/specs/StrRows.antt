@@ -16,9 +16,11 @@ use Rattle.ruby_builtin_base.specs.Results.{count, integer, truth}
 use Rattle.ruby_builtin_texts.specs.Parts.{stripped, capitalized, has_part, counted}
 use Rattle.ruby_builtin_texts.specs.Numerals.{leading_number}
 
+-- A text as a row gives it.
 abbrev pub text : List ℕ → Answer
 text bytes = Gives (Str bytes)
 
+-- A text, or nil where there is none.
 abbrev pub text_or_nil : Option (List ℕ) → Answer
 text_or_nil None = Gives Nil
 text_or_nil (Some bytes) = text bytes

@@ -5,6 +5,7 @@ ghost use Rattle.std.specs.Prelude.{◌≡◌, ◌∷◌, map, IfOk};
 use ruby_types::Text;
 use std::alloc::{AllocError, Global};
 
+/// The bytes with each small ASCII letter raised.
 pub fn upcased(alloc: Global, text: &[u8]) -> Result<Text, AllocError>
     ensures { IfOk result (λ made. made ≡ map to_ascii_uppercase text.now) }
 {
@@ -15,6 +16,7 @@ pub fn upcased(alloc: Global, text: &[u8]) -> Result<Text, AllocError>
     Text::from_vec(alloc, letters)
 }
 
+/// The bytes with each capital ASCII letter lowered.
 pub fn downcased(alloc: Global, text: &[u8]) -> Result<Text, AllocError>
     ensures { IfOk result (λ made. made ≡ map to_ascii_lowercase text.now) }
 {

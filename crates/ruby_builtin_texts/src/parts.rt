@@ -17,12 +17,14 @@ pub fn compared(text: &[u8], other: &[u8]) -> Ordering
     text.cmp(&other)
 }
 
+/// Whether a text begins with another.
 pub fn starts_with(text: &[u8], part: &[u8]) -> bool
     ensures { result ≡ starts_with nat_eq text.now part.now }
 {
     text.starts_with(part)
 }
 
+/// Whether a text ends with another.
 pub fn ends_with(text: &[u8], part: &[u8]) -> bool
     ensures { result ≡ ends_with nat_eq text.now part.now }
 {
@@ -42,6 +44,7 @@ fn is_white(byte: u8) -> bool
     byte == b' ' || (9 <= byte && byte <= 13)
 }
 
+/// The bytes behind the white ones at the front: space, TAB, LF, VT, FF and CR.
 pub fn without_leading_white(text: &[u8]) -> &[u8]
     ensures { result.now ≡ spec.without_leading_white text.now }
 {
