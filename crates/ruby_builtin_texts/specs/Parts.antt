@@ -13,6 +13,7 @@ abbrev pub without_leading_white : List ℕ → List ℕ
 without_leading_white [] = []
 without_leading_white (byte ∷ bytes) = if is_white byte then without_leading_white bytes else byte ∷ bytes
 
+-- The text without the white bytes at its end.
 abbrev pub without_trailing_white : List ℕ → List ℕ
 without_trailing_white text = reverse (without_leading_white (reverse text))
 
