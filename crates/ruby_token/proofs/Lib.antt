@@ -1,5 +1,6 @@
 pub mod OperatorRows
 pub mod Words
+pub mod Valueless
 pub mod Magnitude
 pub mod Longest
 pub mod Runs

@@ -3,6 +3,7 @@ pub mod Opens
 pub mod Operators
 pub mod Number
 pub mod State
+pub mod Beginning
 pub mod Lexemes
 pub mod Cut
 pub mod Spans

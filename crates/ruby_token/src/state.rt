@@ -2,9 +2,11 @@
 
 ghost use Rattle.std.specs.Prelude.{◌≡◌, ◌≤◌, ◌<◌, ◌+◌, ◌-◌, ◌^◌, length, map, OnOk};
 ghost use Rattle.ruby_token.specs.Opens.{text_at, in_inside};
-ghost use Rattle.ruby_token.specs.State.{start, is_one_of, is_valueless, after_op, after_token, ends_value, joins};
+ghost use Rattle.ruby_token.specs.State.{start, is_one_of, valueless_words, is_valueless, after_op, after_token};
+ghost use Rattle.ruby_token.specs.State.{ends_value, joins};
 ghost use Rattle.ruby_token.specs.State.{quote_of, close_brace, opens_op, opens_after, brackets_op, brackets_after};
 ghost use Rattle.ruby_token.specs.State.{in_brackets, last_of, state_past, state_after, drops};
+ghost use Rattle.ruby_token.specs.Beginning.{beginning};
 
 use crate::opens::{Open, Opens, Quote};
 use crate::scan::next_is;
@@ -32,22 +34,23 @@ pub struct State {
     pub before: u8,
 }
 
-/// The reserved words that stand for no value: all but `self`, `nil`, `true` and `false`.
-static VALUELESS_WORDS: [&[u8]; 13] = [
-    b"end",
-    b"if",
-    b"def",
-    b"return",
-    b"else",
-    b"class",
-    b"module",
-    b"unless",
-    b"elsif",
-    b"then",
-    b"raise",
-    b"include",
-    b"attr_reader",
-];
+/// The reserved words that begin so and stand for no value: those of all but `self`, `nil`, `true` and `false`.
+fn valueless_beginning(first: u8) -> &'static [&'static [u8]]
+    ensures { map (λ w. w.now) result.now ≡ beginning first valueless_words }
+{
+    match first {
+        b'a' => &[b"attr_reader"],
+        b'c' => &[b"class"],
+        b'd' => &[b"def"],
+        b'e' => &[b"end", b"else", b"elsif"],
+        b'i' => &[b"if", b"include"],
+        b'm' => &[b"module"],
+        b'r' => &[b"return", b"raise"],
+        b't' => &[b"then"],
+        b'u' => &[b"unless"],
+        _ => &[],
+    }
+}
 
 fn is_one_of(words: &[&[u8]], text: &[u8]) -> bool
     ensures { result ≡ is_one_of (map (λ w. w.now) words.now) text.now }
@@ -63,7 +66,10 @@ fn is_one_of(words: &[&[u8]], text: &[u8]) -> bool
 fn is_valueless(text: &[u8]) -> bool
     ensures { result ≡ is_valueless text.now }
 {
-    is_one_of(&VALUELESS_WORDS, text)
+    match text {
+        [] => false,
+        [first, ..] => is_one_of(valueless_beginning(*first), text),
+    }
 }
 
 fn after_op(op: Op) -> After

@@ -1,11 +1,5 @@
-//! Tests of `ruby_token`: texts and their tokens, worked out by hand.
+//! Tests of `ruby_token` on large files. What a few bytes can show is a case of `ruby_token_cases`.
 #![tactic(auto)]
 
 #[cfg(test)]
-mod cuts;
-#[cfg(test)]
-mod faults;
-#[cfg(test)]
 mod large;
-#[cfg(test)]
-mod tests;
