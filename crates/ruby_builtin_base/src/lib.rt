@@ -3,8 +3,7 @@
 //!
 //! A row is defined as what it comes to by its arguments, `takes_int (λ m. ..)` of `specs/Arguments.antt`, and a call
 //! of it answers by `specs/Answers.antt`. In code a row is an arm that reads its arguments with [`Call::one_int`] and
-//! its like and answers with [`Call::gives`]:
-//! `PLUS => Ok(call.gives(Value::Int(sum(n, call.one_int()?)?)))`.
+//! its like and answers with [`Call::gives`] and its like: `PLUS => Ok(call.integer(sum(n, call.one_int()?)))`.
 #![tactic(auto)]
 
 mod answer;
