@@ -2,9 +2,8 @@
 //!
 //! A `System` stores its history and, beside it, what a look at the whole history would tell: the seats, the table of
 //! defined tasks, and the counts. Its invariant is that the history is legal and that all else is the state after it
-//! (`IsAfter` of `system_events`), so `System::tells_legal` tells that of any system, and `System::tells_laws` what
-//! follows
-//! from it.
+//! (`IsAfter` of `system_events`). So `System::tells_legal` tells that of any system, and `System::tells_laws` what
+//! follows from it.
 //!
 //! `apply` enters an event, or refuses it by the first true guard of its row and changes nothing. It takes no memory:
 //! entries and values are reserved before. No event looks through the history or the table; a task is found by its

@@ -1,7 +1,6 @@
 //! Plays events over systems of letters, as its standard input tells them, and says how many answers hold.
 //!
-//! A paragraph begins with the number of its seats, and each line after it is a step and its answer, worked out by
-//! hand:
+//! A paragraph begins with the number of its seats. Each line after it is a step and its answer, worked out by hand:
 //!
 //! ```text
 //! 2 seats

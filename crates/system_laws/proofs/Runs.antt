@@ -91,7 +91,7 @@ module _ {M T V P Q R F : Type 0} where
   begun_on k program found seat (Begin request) other = absurd (other request refl)
   begun_on k program found seat _ other = refl
 
-  -- A Begin found in a history is found in a longer one: for each event that adds an entry.
+  -- a request stays where it began when the history grows
   pub request_grown : (es xs : List (Entry M T V P Q R F)) (place : ℕ) (r : Q) → request_at es (Some place) ≡ Some r →
       request_at (es ++ xs) (Some place) ≡ Some r
   request_grown [] xs place r is = absurd (none-some r is)
