@@ -21,7 +21,7 @@ without_trailing_white text = reverse (without_leading_white (reverse text))
 abbrev pub stripped : List ℕ → List ℕ
 stripped text = without_trailing_white (without_leading_white text)
 
--- The first byte is raised where it is an ASCII letter, and all others fall: "éA" stays "éa", and "aBC" is "Abc".
+-- The first byte is raised where it is an ASCII letter, and all others fall: "éA" is "éa", and "aBC" is "Abc".
 abbrev pub capitalized : List ℕ → List ℕ
 capitalized [] = []
 capitalized (first ∷ others) = to_ascii_uppercase first ∷ map to_ascii_lowercase others
