@@ -10,7 +10,7 @@ use Rattle.std.specs.Ordering.{int_eq}
 use Rattle.std.proofs.lemmas.Bool.{eq-eqb}
 use Rattle.std.proofs.lemmas.Bool.Decides.{nat_tests}
 use Rattle.std.proofs.Common.{arith, eqb}
-use Rattle.std.proofs.Common.{ℤ, drop, get_or, ◌<◌, ◌+◌, drop-cons, add-one}
+use Rattle.std.proofs.Common.{zero, subst, ℤ, drop, get_or, ◌<◌, ◌+◌, drop-cons, add-one}
 use Rattle.ruby_types.specs.Same.{same, same_both, same_each, same_pair, same_counts, same_layer, pair_of}
 
 abbrev Tested : Type 0
@@ -142,6 +142,10 @@ pub counts-at : (test : Value × Value → Value × Value → Bool) (ps own othe
     (drop (i + 1) ps) own other)
 counts-at test ps own other i d h = rw (drop-cons ps i d, add-one) refl
 
+and_no : (b : Bool) → (b && false) ≡ false
+and_no true = refl
+and_no false = refl
+
 eqb_of_ne : (a b : ℕ) → (a ≡ b → ⊥) → eqb a b ≡ false
 eqb_of_ne a b h = grind (arith, nat_tests)
 
@@ -174,9 +178,31 @@ counts_of_one test (p ∷ ps) pairs =
     ap (λ b. b && same_counts test ps pairs pairs) (eq-eqb (count_by (test p) pairs) _ refl)
     ∙ counts_of_one test ps pairs
 
--- hashes of the same pairs in one order are the same
-pub same_in_order : (ps qs : List (Value × Value)) → ps ≡ qs →
-    true ≡ (nat_eq (length ps) (length qs) && same_counts same_both ps ps qs)
-same_in_order ps qs e =
-    sym (ap (λ b. b && same_counts same_both ps ps qs) (eq-eqb (length ps) (length qs) (ap length e))
-    ∙ ap (λ l. same_counts same_both ps ps l) (sym e) ∙ counts_of_one same_both ps ps)
+-- a list has its own pairs as often as itself
+pub same_list_counts : (ps qs : List (Value × Value)) → ps ≡ qs → true ≡ same_counts same_both ps ps qs
+same_list_counts ps qs e =
+    sym (ap (λ l. same_counts same_both ps ps l) (sym e) ∙ counts_of_one same_both ps ps)
+
+-- ---- one pair that stands in two lists unequally often
+
+unequal_count : (test : Value × Value → Value × Value → Bool) (ps own other : List (Value × Value)) (i : ℕ)
+    (p : Value × Value) → i < length ps → p ≡ get_or ps i p →
+    (count_by (test p) own ≡ count_by (test p) other → ⊥) → false ≡ same_counts test ps own other
+unequal_count test [] own other i p h at ne = absurd (omega arith)
+unequal_count test (q ∷ ps) own other zero p h at ne =
+    let e : nat_eq (count_by (test q) own) (count_by (test q) other) ≡ false =
+    subst (λ r. nat_eq (count_by (test r) own) (count_by (test r) other) ≡ false) at (eqb_of_ne _ _ ne) in
+    ap (λ b. b && same_counts test ps own other) (sym e)
+unequal_count test (q ∷ ps) own other (suc i) p h at ne =
+    sym (ap (λ b. nat_eq (count_by (test q) own) (count_by (test q) other) && b)
+    (sym (unequal_count test ps own other i p (omega arith) at ne))
+    ∙ and_no (nat_eq (count_by (test q) own) (count_by (test q) other)))
+
+-- decides that not each pair does
+pub counts_are_unequal : (ps xs other : List (Value × Value)) (i : ℕ) (p : Value × Value) (m n : ℕ) → xs ≡ ps →
+    i < length xs → p ≡ get_or xs i p → m ≡ count_by (same_both p) ps → n ≡ count_by (same_both p) other →
+    (m ≡ n → ⊥) → nat_eq m n ≡ same_counts same_both ps ps other
+counts_are_unequal ps xs other i p m n same_list below at in_own in_other ne =
+    eqb_of_ne m n ne
+    ∙ unequal_count same_both ps ps other i p (rw (← same_list) below) (at ∙ ap (λ l. get_or l i p) same_list)
+    (λ q. ne (in_own ∙ q ∙ sym in_other))
