@@ -39,12 +39,6 @@ pub no_sum : {X : Type 0} (told : X → ℕ) (xs : List X) → length xs ≡ 0 �
 no_sum told [] e = refl
 no_sum told (x ∷ xs) e = absurd (omega (arith, e))
 
--- a place that holds something is within the list
-pub place_is_within : {X : Type 0} (xs : List X) (i : ℕ) {x : X} → slice_get xs i ≡ Some x → i < length xs
-place_is_within [] i here = absurd (cc)
-place_is_within (y ∷ xs) zero here = omega arith
-place_is_within (y ∷ xs) (suc i) here = let e = place_is_within xs i here in omega (arith, e)
-
 -- a pair more that found a partner keeps the sums
 pub one_more_taken : {X : Type 0} (told : X → ℕ) (xs ys : List X) (taken : List Bool) (i j : ℕ) (x : X) →
     i < length xs → x ≡ get_or xs i x → slice_get taken j ≡ Some false → slice_get ys j ≡ Some x →

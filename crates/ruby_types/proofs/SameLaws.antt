@@ -7,6 +7,7 @@ use Rattle.ruby_types.specs.declared.value.Value.{roll-out-Value, map-Value}
 use Rattle.ruby_types.specs.declared.value.Value.TheOpen as layer
 use Rattle.ruby_types.specs.declared.value.Value.TheVariants as v
 use Rattle.std.specs.Ordering.{int_eq}
+use Rattle.std.proofs.Math.Bool.{and-false}
 use Rattle.std.proofs.lemmas.Bool.{eq-eqb}
 use Rattle.std.proofs.lemmas.Bool.Decides.{nat_tests}
 use Rattle.std.proofs.Common.{arith, eqb}
@@ -61,24 +62,24 @@ abbrev pub same_open : Value-F Value → Value-F Value → Bool
 same_open (layer.Hash ps) (layer.Hash qs) = nat_eq (length ps) (length qs) && same_counts same_both ps ps qs
 same_open x y = same_layer (λ v. v) same x y
 
-layers : (x y : Value-F Value) →
+same_layer-tested : (x y : Value-F Value) →
     same_layer (λ c. c.0) (λ c. c.1) (map-Value Value Tested tested x) y ≡ same_open x y
-layers (layer.Array xs) (layer.Array ys) = each-tested xs ys
-layers (layer.Hash ps) (layer.Hash qs) =
+same_layer-tested (layer.Array xs) (layer.Array ys) = each-tested xs ys
+same_layer-tested (layer.Hash ps) (layer.Hash qs) =
     ap (λ n. nat_eq n (length qs) && same_counts test_pair (map tested_pair ps) (map value_pair (map tested_pair ps))
     qs)
     (length-tested ps)
     ∙ ap (λ l. nat_eq (length ps) (length qs) && same_counts test_pair (map tested_pair ps) l qs) (pairs-tested ps)
     ∙ ap (λ b. nat_eq (length ps) (length qs) && b) (counts-tested ps ps qs)
-layers (layer.Object p xs) (layer.Object q ys) = ap (λ b. same_each bytes_eq p q && b) (each-tested_pair xs ys)
-layers layer.Nil layer.Nil = refl
-layers layer.True layer.True = refl
-layers layer.False layer.False = refl
-layers (layer.Int m) (layer.Int n) = refl
-layers (layer.Str m) (layer.Str n) = refl
-layers (layer.Sym m) (layer.Sym n) = refl
-layers (layer.Module m) (layer.Module n) = refl
-layers _ _ = refl
+same_layer-tested (layer.Object p xs) (layer.Object q ys) = ap (λ b. same_each bytes_eq p q && b) (each-tested_pair xs ys)
+same_layer-tested layer.Nil layer.Nil = refl
+same_layer-tested layer.True layer.True = refl
+same_layer-tested layer.False layer.False = refl
+same_layer-tested (layer.Int m) (layer.Int n) = refl
+same_layer-tested (layer.Str m) (layer.Str n) = refl
+same_layer-tested (layer.Sym m) (layer.Sym n) = refl
+same_layer-tested (layer.Module m) (layer.Module n) = refl
+same_layer-tested _ _ = refl
 
 -- values are the same by one level of both
 pub same_is : (a b : Value) → same a b ≡ same_open (out-Value a) (out-Value b)
@@ -87,7 +88,7 @@ same_is a b =
     ap (λ x. same x b) (sym (roll-out-Value a))
     ∙ ap (λ f. f b)
     (para-roll-Value (Value → Bool) (λ x w. same_layer (λ c. c.0) (λ c. c.1) x (out-Value w)) (out-Value a))
-    ∙ layers (out-Value a) (out-Value b)
+    ∙ same_layer-tested (out-Value a) (out-Value b)
 
 -- ---- by the variants of both
 
@@ -142,10 +143,6 @@ pub counts-at : (test : Value × Value → Value × Value → Bool) (ps own othe
     (drop (i + 1) ps) own other)
 counts-at test ps own other i d h = rw (drop-cons ps i d, add-one) refl
 
-and_no : (b : Bool) → (b && false) ≡ false
-and_no true = refl
-and_no false = refl
-
 eqb_of_ne : (a b : ℕ) → (a ≡ b → ⊥) → eqb a b ≡ false
 eqb_of_ne a b h = grind (arith, nat_tests)
 
@@ -196,7 +193,7 @@ unequal_count test (q ∷ ps) own other zero p h at ne =
 unequal_count test (q ∷ ps) own other (suc i) p h at ne =
     sym (ap (λ b. nat_eq (count_by (test q) own) (count_by (test q) other) && b)
     (sym (unequal_count test ps own other i p (omega arith) at ne))
-    ∙ and_no (nat_eq (count_by (test q) own) (count_by (test q) other)))
+    ∙ and-false (nat_eq (count_by (test q) own) (count_by (test q) other)))
 
 -- decides that not each pair does
 pub counts_are_unequal : (ps xs other : List (Value × Value)) (i : ℕ) (p : Value × Value) (m n : ℕ) → xs ≡ ps →

@@ -1,7 +1,8 @@
 use Rattle.std.proofs.Common.{false, ap, arith, length-set, ◌∙◌}
 use Rattle.std.proofs.lemmas.List.{length-replicate}
+use Rattle.std.proofs.lemmas.Option.{slice_get_within}
 use Rattle.std.specs.Prelude.{sum_by}
-use Rattle.ruby_types.proofs.PairingLaws.{all_left, one_more_taken, place_is_within, all_taken}
+use Rattle.ruby_types.proofs.PairingLaws.{all_left, one_more_taken, all_taken}
 use Rattle.ruby_types.proofs.pairing.without_partner.Goals as goal
 
 pub pairs-init : goal.pairs-init
@@ -12,7 +13,7 @@ pairs-init g c = record {
 
 pub bounds-taken-other : goal.bounds-taken-other
 bounds-taken-other g c =
-    let e = place_is_within c.pairs.taken c.in-Some.other c.in-Some.ensures.free in
+    let e = slice_get_within c.pairs.taken c.in-Some.other false c.in-Some.ensures.free in
     omega (arith, e, c.pairs.invariant.long)
 
 pub pairs-preserved : goal.pairs-preserved
@@ -24,4 +25,5 @@ pairs-preserved g c = record {
 }
 
 pub returns : goal.returns
-returns g c = all_taken c.args.pairs.now c.args.others.now c.pairs.taken c.pairs.place c.requires.long c.pairs-test.false c.pairs.invariant.sums
+returns g c = all_taken c.args.pairs.now c.args.others.now c.pairs.taken c.pairs.place c.requires.long
+    c.pairs-test.false c.pairs.invariant.sums
