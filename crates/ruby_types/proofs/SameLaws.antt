@@ -71,7 +71,8 @@ same_layer-tested (layer.Hash ps) (layer.Hash qs) =
     (length-tested ps)
     ∙ ap (λ l. nat_eq (length ps) (length qs) && same_counts test_pair (map tested_pair ps) l qs) (pairs-tested ps)
     ∙ ap (λ b. nat_eq (length ps) (length qs) && b) (counts-tested ps ps qs)
-same_layer-tested (layer.Object p xs) (layer.Object q ys) = ap (λ b. same_each bytes_eq p q && b) (each-tested_pair xs ys)
+same_layer-tested (layer.Object p xs) (layer.Object q ys) =
+    ap (λ b. same_each bytes_eq p q && b) (each-tested_pair xs ys)
 same_layer-tested layer.Nil layer.Nil = refl
 same_layer-tested layer.True layer.True = refl
 same_layer-tested layer.False layer.False = refl
