@@ -45,7 +45,8 @@ pub joined-more : {X : Type 0} (f : X → List ℕ) (xs : List X) (i : ℕ) (x :
     o2 ≡ cond first o1 (o1 ++ 44 ∷ 32 ∷ []) → o3 ≡ o2 ++ f x →
     (false ≡ is_nil (take (i + 1) xs)) × (o3 ≡ o0 ++ joined (map f (take (i + 1) xs)))
 joined-more f xs i x o0 o1 o2 o3 first h e inv b c =
-    rw (take_more xs i x h, ← e) (nil-push (take i xs) x, joined_grows f (take i xs) x o0 o1 o2 o3 inv.1 (rw inv.0 at b) c)
+    rw (take_more xs i x h, ← e)
+    (nil-push (take i xs) x, joined_grows f (take i xs) x o0 o1 o2 o3 inv.1 (rw inv.0 at b) c)
 
 -- a pair as it is written piece by piece
 pub pair_steps : (o1 o2 o3 o4 k v : List ℕ) → o2 ≡ o1 ++ k → o3 ≡ o2 ++ 61 ∷ 62 ∷ [] → o4 ≡ o3 ++ v →

@@ -101,10 +101,12 @@ first_is_less : (r : List ℕ × ℕ) (rows : List (List ℕ × ℕ)) (j : ℕ) 
     slice_get rows j ≡ Some s → IsLess r.0 s.0
 first_is_less r [] j s rise at = absurd (none-some s at)
 first_is_less r (x ∷ rows) zero s rise at =
-    subst (λ (p : List ℕ × ℕ). IsLess r.0 p.0) (same_Some x s at) (less_is (slice_cmp nat_cmp r.0 x.0) (and_parts _ _ rise).0)
+    subst (λ (p : List ℕ × ℕ). IsLess r.0 p.0) (same_Some x s at)
+    (less_is (slice_cmp nat_cmp r.0 x.0) (and_parts _ _ rise).0)
 first_is_less r (x ∷ rows) (suc j) s rise at =
     let parts = and_parts _ _ rise in
-    nat_list_cmp_total.trans r.0 x.0 s.0 (less_is (slice_cmp nat_cmp r.0 x.0) parts.0) (first_is_less x rows j s parts.1 at)
+    nat_list_cmp_total.trans r.0 x.0 s.0 (less_is (slice_cmp nat_cmp r.0 x.0) parts.0)
+    (first_is_less x rows j s parts.1 at)
 
 rest_rises : (r : List ℕ × ℕ) (rows : List (List ℕ × ℕ)) → rises (r ∷ rows) ≡ true → rises rows ≡ true
 rest_rises r [] rise = refl

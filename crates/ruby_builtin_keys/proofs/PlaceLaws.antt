@@ -26,7 +26,8 @@ module _ (all : List Pair) (key : Value) (here : ℕ) (p : Pair) (rest : List �
   found_or_later : (s t : Bool) → same p.0 key ≡ s → (s ≡ true → t ≡ true) →
       first_of all key (cond t (here ∷ rest) rest) ≡ cond s (Some here) later
   found_or_later true true is hit = ap (λ b. cond b (Some here) (first_of all key rest)) (ap (has_key key) at ∙ is)
-  found_or_later false true is hit = ap (λ b. cond b (Some here) (first_of all key rest)) (ap (has_key key) at ∙ is) ∙ goes_on
+  found_or_later false true is hit =
+      ap (λ b. cond b (Some here) (first_of all key rest)) (ap (has_key key) at ∙ is) ∙ goes_on
   found_or_later true false is hit = absurd (false≢true (hit refl))
   found_or_later false false is hit = goes_on
 
