@@ -1,0 +1,5 @@
+pub mod Within
+pub mod Names
+pub mod Bodies
+pub mod Runs
+pub mod Asked
