@@ -154,7 +154,8 @@ module _ (index : Index) (rows : BuiltIns) (may : Bounds) (has : HasTasks index 
   whole_name_stays_within : (here : Here) (in_code top : Bool) (names : List Name) →
       StaysWithin may (whole_name index rows here in_code top names)
   whole_name_stays_within here in_code top [] =
-      pure_stays_within may (record { path = []; value = Nil; assigned = false })
+      then_stays_within may (segment_turn index rows here in_code) _ (segment_turn_stays_within here in_code)
+      (pure_stays_within may (record { path = []; value = Nil; assigned = false }))
   whole_name_stays_within here in_code top (name ∷ names) =
       then_stays_within may (segment_turn index rows here in_code) _ (segment_turn_stays_within here in_code)
       (bind_stays_within may (first_name index rows here in_code top name) _
