@@ -4,7 +4,7 @@ use Rattle.std.proofs.Common.{length, append_assoc, append-nil, length-append, O
 use Rattle.std.proofs.Common.{Contains, replicate, refl, sym, ap, ◌∙◌, subst, arith}
 use Rattle.std.proofs.lemmas.Bool.{true≢false, and_parts, not-false, eqb-true}
 use Rattle.std.proofs.lemmas.Option.{none-some, same_Some}
-use Rattle.turn_lock.specs.Entries.{NoneOf, Lags}
+use Rattle.turn_lock.specs.Entries.{NoneOf, Lags, Begins}
 use Rattle.share_lock.specs.declared.seat.Row.{Row}
 use Rattle.share_lock.specs.Rows.{resting_row, row_at}
 use Rattle.share_lock.specs.Lock.{owns}
@@ -18,7 +18,7 @@ use Rattle.system_events.specs.declared.event.Entry.{Entry}
 use Rattle.system_events.specs.declared.event.Kept.{Kept}
 use Rattle.system_events.specs.declared.event.Kept.TheVariants.{Define, Reload, End, Refuse}
 use Rattle.system_events.specs.declared.event.Want.{Want}
-use Rattle.system_events.specs.Facts.{Facts, SameIsEqual}
+use Rattle.system_events.specs.Facts.{Facts, SameIsEqual, Needs}
 use Rattle.system_events.specs.State.{State, next_place, is_in, want_at, section_want, request_at, running_request}
 use Rattle.system_events.specs.Guards.{guard_of}
 use Rattle.system_events.specs.Steps.{effect, seats_after, counts_after, table_after, Condition, IsReply, IsNeeded}
@@ -46,6 +46,11 @@ seat_row_rests : (n k : ℕ) → row_parts (row_at (replicate n resting_row) k) 
 seat_row_rests zero k = refl
 seat_row_rests (suc n) zero = refl
 seat_row_rests (suc n) (suc k) = seat_row_rests n k
+
+-- no two seats are exclusive
+owner_is_one : (e : Option ℕ) (j k : ℕ) → owns e j ≡ true → owns e k ≡ true → j ≡ k
+owner_is_one None j k a b = absurd (true≢false (sym a))
+owner_is_one (Some o) j k a b = sym (eqb-true o j a) ∙ eqb-true o k b
 
 module _ {M T V P Q R F : Type 0} (f : Facts T V P Q R F) where
   -- acts of other seats leave the row
@@ -166,3 +171,146 @@ module _ {M T V P Q R F : Type 0} (f : Facts T V P Q R F) where
         table = λ task there. ap (λ (s : State M T V P Q R F). is_in f task s.table) is
             ∙ table_grows equal (after f n seen) lags.more task none there;
       }
+
+  -- CONDITIONS THAT STAY
+
+  -- a reply that was its request's stays it
+  pub reply_stays : SameIsEqual f → (n k : ℕ) (seen log : List (Entry M T V P Q R F)) (reply : R) →
+      IsLegal f n seen → IsLegal f n log → Lags seat_of k seen log →
+      Condition f (after f n seen) k (End reply) → Condition f (after f n log) k (End reply)
+  reply_stays equal n k seen log reply legal later lags was request is =
+      by (mark (after f n log).seats k).running refl
+    where
+      by : (o : Option ℕ) → (mark (after f n log).seats k).running ≡ o → IsReply f (after f n log) request reply
+      by None at = absurd (none-some request (sym (ap (request_at (after f n log).history) at) ∙ is))
+      by (Some place) at =
+          let runs : (seat_row (after f n seen).seats k).running ≡ Some place =
+          sym (ap (λ (r : SystemRow). r.running) (lags_row n k seen log legal lags)) ∙ at in
+          let before : Keeps f (after f n seen) = keeps_after f equal n seen legal in
+          let begun : request_at seen (Some place) ≡ Some (before.runs k place runs).request =
+          ap (λ h. request_at h (Some place)) (sym (history_after f n seen legal)) ∙ (before.runs k place runs).there in
+          let grown : request_at log (Some place) ≡ Some (before.runs k place runs).request =
+          ap (λ h. request_at h (Some place)) lags.is ∙ request_grown seen lags.more place _ begun in
+          let there : request_at log (Some place) ≡ Some request =
+          ap (λ h. request_at h (Some place)) (sym (history_after f n log later))
+          ∙ (sym (ap (request_at (after f n log).history) at) ∙ is) in
+          let same : (before.runs k place runs).request ≡ request = same_Some _ _ (sym grown ∙ there) in
+          let ran : running_request (after f n seen) k ≡ Some request =
+          ap (request_at (after f n seen).history) runs ∙ ((before.runs k place runs).there ∙ ap Some same) in
+          let right : IsReply f (after f n seen) request reply = was request ran in
+          let steady : Steady (after f n seen) (after f n log) =
+          lags_steady equal n k seen log place legal later lags runs in (
+            right.0 ∙ ap (λ p. f.reply p request) (sym steady.program),
+            λ task asked known.
+                steady.table task (right.1 task
+                (subst (λ p. Contains (f.request_asked p request) task) steady.program asked)
+                (subst (λ p. is_some (f.known p task) ≡ true) steady.program known)),
+          )
+
+  want_on : (es xs : List (Entry M T V P Q R F)) (place : ℕ) (w : Want M T V P Q R F) →
+      want_at es (Some place) ≡ Some w → want_at (es ++ xs) (Some place) ≡ Some w
+  want_on [] xs place w is = absurd (none-some w is)
+  want_on (e ∷ es) xs zero w is = is
+  want_on (e ∷ es) xs (suc place) w is = want_on es xs place w is
+
+  -- an open section stays what it is for
+  pub section_stays : (n k : ℕ) (seen log : List (Entry M T V P Q R F)) (want : Want M T V P Q R F) →
+      IsLegal f n seen → IsLegal f n log → Lags seat_of k seen log →
+      section_want (after f n seen) k ≡ Some want → section_want (after f n log) k ≡ Some want
+  section_stays n k seen log want legal later lags is = by (mark (after f n seen).seats k).section refl
+    where
+      by : (o : Option ℕ) → (mark (after f n seen).seats k).section ≡ o → section_want (after f n log) k ≡ Some want
+      by None at = absurd (none-some want (sym (ap (want_at (after f n seen).history) at) ∙ is))
+      by (Some place) at =
+          let here : want_at seen (Some place) ≡ Some want =
+          ap (λ h. want_at h (Some place)) (sym (history_after f n seen legal))
+          ∙ (sym (ap (want_at (after f n seen).history) at) ∙ is) in
+          let grown : want_at log (Some place) ≡ Some want =
+          ap (λ h. want_at h (Some place)) lags.is ∙ want_on seen lags.more place want here in
+          ap (want_at (after f n log).history)
+          (ap (λ (r : SystemRow). r.section) (lags_row n k seen log legal lags) ∙ at)
+          ∙ (ap (λ h. want_at h (Some place)) (history_after f n log later) ∙ grown)
+
+  -- a task that a running request may define stays one
+  pub needed_stays : SameIsEqual f → (n k : ℕ) (seen log : List (Entry M T V P Q R F)) (place : ℕ) (task : T) →
+      IsLegal f n seen → IsLegal f n log → Lags seat_of k seen log →
+      (seat_row (after f n seen).seats k).running ≡ Some place →
+      IsNeeded f (after f n seen) k task → IsNeeded f (after f n log) k task
+  needed_stays equal n k seen log place task legal later lags runs is =
+      let steady : Steady (after f n seen) (after f n log) =
+      lags_steady equal n k seen log place legal later lags runs in (
+        subst (λ p. is_some (f.known p task) ≡ true) (sym steady.program) is.0,
+        (
+          is.1.0,
+          (
+            section_stays n k seen log _ legal later lags is.1.1.0,
+            subst (λ p. Needs (f.asked p) is.1.0 task) (sym steady.program) is.1.1.1,
+          ),
+        ),
+      )
+
+  -- WHILE THE SEAT IS EXCLUSIVE
+
+  steps_after : (s : State M T V P Q R F) (xs ys : List (Entry M T V P Q R F)) → AreSteps f s (xs ++ ys) →
+      AreSteps f (after_from f s xs) ys
+  steps_after s [] ys steps = steps
+  steps_after s (x ∷ xs) ys steps = steps_after (effect f s x.seat x.kept) xs ys steps.1
+
+  legal_steps : (n : ℕ) (h more : List (Entry M T V P Q R F)) → IsLegal f n h → IsLegal f n (h ++ more) →
+      AreSteps f (after f n h) more
+  legal_steps n [] more legal later = absurd (let opens = legal.opens in cc)
+  legal_steps n (x ∷ xs) more legal later =
+      let rest : xs ++ more ≡ later.entries = let opens = later.opens in cc in
+      steps_after (start f n) xs more (subst (AreSteps f (start f n)) (sym rest) later.steps)
+
+  act_leaves_table : (s : State M T V P Q R F) (j : ℕ) (kept : Kept M T V P Q R F) → (is_owner s.seats j ≡ true → ⊥) →
+      guard_of f s j kept ≡ None → table_after f s.counts.program s.table kept ≡ s.table
+  act_leaves_table s j (Define task) other p =
+      absurd (other (and_parts _ _ (not-false _ (guard_false _ _ _ (first_none _ _ p)).0)).0)
+  act_leaves_table s j (Reload program) other p =
+      absurd (other (and_parts _ _ (not-false _ (guard_false _ _ _ (first_none _ _ p)).0)).0)
+  act_leaves_table s j _ other p = refl
+
+  table_stays_from : SameIsEqual f → (s : State M T V P Q R F) (es : List (Entry M T V P Q R F)) (k : ℕ) → Keeps f s →
+      AreSteps f s es → NoneOf seat_of k es → is_exclusive (seat_row s.seats k) ≡ true →
+      (after_from f s es).table ≡ s.table
+  table_stays_from equal s [] k keeps steps none owns_it = refl
+  table_stays_from equal s (e ∷ es) k keeps steps none owns_it =
+      let row_is = seat_row_stays s.seats (next_place s) e.seat e.kept k (λ is. none.0 (sym is)) in
+      let owner : is_owner s.seats k ≡ true = (tidy-exclusive s.seats keeps.tidy).shows k ∙ owns_it in
+      table_stays_from equal (effect f s e.seat e.kept) es k (keeps_step f equal s e _ steps.0 keeps) steps.1 none.1
+      (ap is_exclusive row_is ∙ owns_it)
+      ∙ act_leaves_table s e.seat e.kept (λ is. none.0 (owner_is_one s.seats.lock.exclusive e.seat k is owner))
+      (steps.0).passes
+
+  -- while a seat is exclusive nobody else changes the table
+  pub table_stays : SameIsEqual f → (n k : ℕ) (seen log : List (Entry M T V P Q R F)) → IsLegal f n seen →
+      IsLegal f n log → Lags seat_of k seen log → is_exclusive (seat_row (after f n seen).seats k) ≡ true →
+      (after f n log).table ≡ (after f n seen).table
+  table_stays equal n k seen log legal later lags owns_it =
+      ap (λ h. (after f n h).table) lags.is
+      ∙ (ap (λ (s : State M T V P Q R F). s.table) (after-append n seen lags.more legal)
+      ∙ table_stays_from equal (after f n seen) lags.more k (keeps_after f equal n seen legal)
+      (legal_steps n seen lags.more legal (subst (IsLegal f n) lags.is later)) lags.none owns_it)
+
+  -- GENERATIONS
+
+  generation_kept : (c : Counts M T V P Q R F) (kept : Kept M T V P Q R F) →
+      c.generation ≤ (counts_after f c kept).generation
+  generation_kept c (Reload program) = omega arith
+  generation_kept c (Refuse Memory) = omega arith
+  generation_kept c _ = omega arith
+
+  generation_grows : (s : State M T V P Q R F) (es : List (Entry M T V P Q R F)) →
+      s.counts.generation ≤ (after_from f s es).counts.generation
+  generation_grows s [] = omega arith
+  generation_grows s (e ∷ es) =
+      let here : s.counts.generation ≤ (counts_after f s.counts e.kept).generation = generation_kept s.counts e.kept in
+      let rest = generation_grows (effect f s e.seat e.kept) es in omega (arith, here, rest)
+
+  -- a history has a later generation in force than its beginning, or the same
+  pub generation_of_longer : (n : ℕ) (a b : List (Entry M T V P Q R F)) → IsLegal f n a → Begins a b →
+      (after f n a).counts.generation ≤ (after f n b).counts.generation
+  generation_of_longer n a b legal begins =
+      subst (λ (s : State M T V P Q R F). (after f n a).counts.generation ≤ s.counts.generation)
+      (sym (ap (after f n) begins.1 ∙ after-append n a begins.0 legal)) (generation_grows (after f n a) begins.0)

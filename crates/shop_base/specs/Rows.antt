@@ -1,5 +1,5 @@
 -- The rows of passes: a seat's row, and the room that is set aside for the seat.
-use Rattle.std.specs.Prelude.{ℕ, Some, None, is_some, Bool, ◌&&◌}
+use Rattle.std.specs.Prelude.{◌≡◌, ℕ, Some, None, is_some, Bool, ◌&&◌}
 use Rattle.share_lock.specs.declared.seat.Phase.TheVariants.{Calm, Seeking, Releasing}
 use Rattle.system_seats.specs.declared.table.SystemRow.{SystemRow}
 use Rattle.system_seats.specs.Seats.{Seats, row, mark, is_calm}
@@ -37,6 +37,10 @@ seeking_seat begun opened =
 -- it runs a request, and is exclusive for a load
 abbrev pub loading_seat : ℕ → ℕ → SystemRow
 loading_seat begun opened = record { lock = sharing; running = Some begun; section = Some opened }
+
+-- it runs a request, and is calm and not exclusive
+abbrev pub IsRunning : SystemRow → Type 0
+IsRunning r = (begun : ℕ) × (r ≡ running_seat begun)
 
 -- THE ROWS INSIDE A CALL
 
