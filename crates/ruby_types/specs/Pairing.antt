@@ -2,6 +2,7 @@
 use Rattle.std.specs.Prelude.{ℕ, ◌≡◌, Bool, true, false, List, [], ◌∷◌, sum_by}
 use Rattle.ruby_types.specs.declared.value.Value.{Value}
 
+-- a key and its value
 abbrev pub Pair : Type 0
 Pair = Value × Value
 

@@ -13,7 +13,7 @@ const PROBES: usize = 512;
 /// A slot that has no place.
 const EMPTY: u16 = 65_535;
 
-/// The place of the first pair that has no partner: a place of its own in the other list where an identical pair stands.
+/// The place of the first pair that has no partner: no place of its own in the other list where an identical pair is.
 /// `None` where the other list has the same pairs in any order. A pair is told though it has a partner where the guess
 /// of its place is bad: where hundreds of keys are alike, or where the lists are longer than `ROOM`.
 ///
