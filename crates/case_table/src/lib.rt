@@ -58,8 +58,8 @@ impl Row for Case {
     }
 }
 
-/// The code of a name, by halving rows that rise.
-fn find_in<T: Row>(rows: &[T], name: &[u8]) -> Option<u16>
+/// The code of a name, by halving rows that rise. Rows that lie in a `static` are looked up in place: no table is made.
+pub fn find_in<T: Row>(rows: &[T], name: &[u8]) -> Option<u16>
     requires { Rising (map T.pair rows.now) }
     ensures found { IfSome result (λ c. HasCode (map T.pair rows.now) name.now c) }
     ensures none { IfNone result (HasNone (map T.pair rows.now) name.now) }

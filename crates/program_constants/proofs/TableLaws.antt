@@ -1,7 +1,7 @@
 -- What a table of sites tells of numbered constants.
 use Rattle.std.proofs.Common.{◌≡◌, ◌≢◌, ℕ, ◌+◌, Bool, true, false, not, List, [], ◌∷◌, ◌++◌, Option, Some, None}
 use Rattle.std.proofs.Common.{is_some}
-use Rattle.std.proofs.Common.{slice_get, inl, inr, refl, sym, ap, ◌∙◌, subst, arith}
+use Rattle.std.proofs.Common.{slice_get, inr, refl, sym, ap, ◌∙◌, subst, arith}
 use Rattle.std.specs.Prelude.{IfSome, IfNone}
 use Rattle.std.specs.List.{list_any}
 use Rattle.std.specs.List.Sorted.{IsPermutation}
@@ -131,9 +131,8 @@ module _ (cs : List Path) (table : List Spelled) (moved : IsPermutation (numbere
       let p = and_parts (begins path i.1) (not (begins i.1 path)) i.3 in
       let r = begins_rest path i.1 p.0 in
       longer r.0 i.0 i.1 (i.2) r.1 p.1 where
-        longer : (rest : Path) (k : ℕ) (c : Path) → slice_get cs k ≡ Some c → c ≡ path ++ rest → not (begins c path) ≡ true
-            →
-            IsNamespace (Lists table) path
+        longer : (rest : Path) (k : ℕ) (c : Path) → slice_get cs k ≡ Some c → c ≡ path ++ rest →
+            not (begins c path) ≡ true → IsNamespace (Lists table) path
         longer [] k c at e outside = absurd (false≢true (ap not (sym (same c e)) ∙ outside)) where
           same : (d : Path) → d ≡ path ++ [] → begins d path ≡ true
           same d q = subst (λ x. begins x path ≡ true) (sym (q ∙ nothing path)) (begins_itself path) where

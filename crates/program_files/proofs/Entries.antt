@@ -1,7 +1,8 @@
 -- The entries of each kind of definition.
-use Rattle.std.proofs.Common.{◌≡◌, List, map, Option, ap, ◌∙◌}
+use Rattle.std.proofs.Common.{◌≡◌, Bool, List, map, Option, ap, ◌∙◌}
 use Rattle.ruby_types.specs.declared.tree.ConstRef.{ConstRef}
 use Rattle.ruby_types.specs.declared.tree.Expr.{Expr}
+use Rattle.ruby_types.specs.declared.tree.Stmt.{Stmt}
 use Rattle.ruby_types.specs.declared.tree.Def.{Def, fold_out-Def, map-Def}
 use Rattle.ruby_types.specs.declared.tree.Def.TheVariants as def
 use Rattle.ruby_types.specs.declared.tree.Def.TheOpen as d
@@ -24,3 +25,20 @@ of-Class path parent body = fold_out-Def Walk entry_step (def.Class path parent 
 pub of-Assign : (name : Name) (value : Expr) → entries_of (def.Assign name value) ≡ entry_step (d.Assign name value)
 of-Assign name value = fold_out-Def Walk entry_step (def.Assign name value)
     ∙ ap (λ x. entry_step (map-Def Def Walk entries_of x)) (def.outs-Assign name value)
+
+-- the entry of a method
+pub of-Method : (single : Bool) (name : Name) (params : List Name) (body : List Stmt) →
+    entries_of (def.Method single name params body) ≡ entry_step (d.Method single name params body)
+of-Method single name params body =
+    fold_out-Def Walk entry_step (def.Method single name params body)
+    ∙ ap (λ x. entry_step (map-Def Def Walk entries_of x)) (def.outs-Method single name params body)
+
+-- the entry of an include
+pub of-Include : (constant : ConstRef) → entries_of (def.Include constant) ≡ entry_step (d.Include constant)
+of-Include constant = fold_out-Def Walk entry_step (def.Include constant)
+    ∙ ap (λ x. entry_step (map-Def Def Walk entries_of x)) (def.outs-Include constant)
+
+-- the entry of readers
+pub of-Readers : (names : List Name) → entries_of (def.Readers names) ≡ entry_step (d.Readers names)
+of-Readers names = fold_out-Def Walk entry_step (def.Readers names)
+    ∙ ap (λ x. entry_step (map-Def Def Walk entries_of x)) (def.outs-Readers names)

@@ -1,4 +1,4 @@
-ghost use Rattle.std.specs.Prelude.{◌≡◌, ◌++◌, ◌∷◌, [], ◌<◌, length, nat_lt, if◌then◌else◌};
+ghost use Rattle.std.specs.Prelude.{◌≡◌};
 
 use crate::{Executor, Hook, Notes, UpdateCheck, Wrapping};
 use outside::{FilePath, Stamp, Stamps};
@@ -41,34 +41,17 @@ impl Hook for Noting {
     }
 }
 
-fn two_hooks(alloc: Global) -> Result<Executor, AllocError> {
-    let mut hooks: Vec<Box<dyn Hook>> = Vec::new(alloc);
-    hooks.push(Box::new(
-        alloc,
-        Noting {
-            before: 1,
-            after: 3,
-            prepare: 5,
-        },
-    )?)?;
-    hooks.push(Box::new(
-        alloc,
-        Noting {
-            before: 2,
-            after: 4,
-            prepare: 6,
-        },
-    )?)?;
-    Ok(Executor::new(hooks, Notes::new(alloc)?))
-}
-
 fn wrap_again(executor: &mut Executor) -> u32
     ensures { executor.new.wraps.depth ≡ executor.old.wraps.depth }
 {
     if executor.depth() >= 1000 {
         return 0;
     }
-    executor.wrap(|_| 7)
+    executor.wrap(
+        |inside| -> u32
+            ensures { inside.new.wraps.depth ≡ inside.old.wraps.depth }
+        { inside.depth() },
+    )
 }
 
 fn are_noted(executor: &Executor, wanted: &[u32]) -> bool {
@@ -83,26 +66,34 @@ fn are_noted(executor: &Executor, wanted: &[u32]) -> bool {
 }
 
 #[test]
-fn a_wrap_in_a_wrap_calls_no_hook(rt: HostRuntime) -> Result<(), Fail> {
-    let mut executor = two_hooks(rt.alloc())?;
-    let given = executor.wrap(|inside| wrap_again(inside));
-    assert_eq!(rt; given, 7);
+fn hooks_are_called_around_the_outermost_wrap(rt: HostRuntime) -> Result<(), Fail> {
+    let alloc = rt.alloc();
+    let mut hooks: Vec<Box<dyn Hook>> = Vec::new(alloc);
+    let first = Noting {
+        before: 1,
+        after: 3,
+        prepare: 5,
+    };
+    let second = Noting {
+        before: 2,
+        after: 4,
+        prepare: 6,
+    };
+    hooks.push(Box::new(alloc, first)?)?;
+    hooks.push(Box::new(alloc, second)?)?;
+    let mut executor = Executor::new(hooks, Notes::new(alloc)?);
+    let inner_depth = executor.wrap(
+        |inside| -> u32
+            ensures { inside.new.wraps.depth ≡ inside.old.wraps.depth }
+        { wrap_again(inside) },
+    );
+    assert_eq!(rt; inner_depth, 2);
     assert_eq!(rt; executor.depth(), 0);
     assert!(rt; are_noted(&executor, &[1, 2, 3, 4]));
-    Ok(())
-}
-
-#[test]
-fn the_halves_of_a_wrap_call_the_hooks_around_what_is_prepared(
-    rt: HostRuntime,
-) -> Result<(), Fail> {
-    let mut executor = two_hooks(rt.alloc())?;
-    assert_eq!(rt; executor.depth(), 0);
     executor.begin_wrap();
     executor.prepared();
-    assert_eq!(rt; executor.depth(), 1);
     executor.end_wrap();
-    assert!(rt; are_noted(&executor, &[1, 2, 5, 6, 3, 4]));
+    assert!(rt; are_noted(&executor, &[1, 2, 3, 4, 1, 2, 5, 6, 3, 4]));
     Ok(())
 }
 

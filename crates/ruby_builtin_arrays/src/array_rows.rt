@@ -1,7 +1,6 @@
 ghost use Rattle.std.specs.Prelude.{◌≡◌, MatchOption, MatchResult, None};
-ghost use Rattle.case_table.specs.Rows.{Rising};
 ghost use Rattle.ruby_builtin_base.specs.Answers.{OrMemory, Says, IsRead, IsRefused, row_answered};
-ghost use Rattle.ruby_builtin_base.specs.Rows.{row_of, row_at, numbered};
+ghost use Rattle.ruby_builtin_base.specs.Rows.{row_of, row_at};
 ghost use Rattle.ruby_builtin_arrays.specs.ArrayRows.{array_rows, takes_size};
 
 use crate::joining::gives_joined;
@@ -9,7 +8,7 @@ use crate::members::{
     gives_back, gives_both, gives_front, gives_member, gives_present, gives_reversed, includes,
 };
 use crate::numbers::{gives_greatest, gives_least, gives_total};
-use case_table::{Case, CaseTable, cases};
+use case_table::{Case, cases, find_in};
 use ruby_builtin_base::{Call, Called};
 use ruby_types::{ErrorClass, Items};
 
@@ -113,22 +112,12 @@ static ROWS: [Case; 16] = [
     },
 ];
 
-fn array_table() -> CaseTable<16>
-    ensures rows { result ≡ numbered 0 array_rows }
-    ensures rising { Rising result }
-{
-    match CaseTable::new(ROWS) {
-        Ok(table) => table,
-        Err(_) => unreachable!(),
-    }
-}
-
 /// The place of the row with this name.
 fn place(name: &[u8]) -> Option<u16>
     ensures { MatchOption result (row_of array_rows name.now ≡ None)
         (λ place. row_of array_rows name.now ≡ row_at array_rows place) }
 {
-    array_table().find(name)
+    find_in(&ROWS, name)
 }
 
 /// The one argument that is a number and not below 0, or the answer to others.

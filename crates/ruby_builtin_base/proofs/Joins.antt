@@ -2,7 +2,7 @@
 use Rattle.std.proofs.Common.{◌≡◌, ℕ, ◌+◌, ◌<◌, Bool, true, false, List, [], ◌∷◌, ◌++◌, length, map, take, get_or, cond}
 use Rattle.std.proofs.Common.{min, length-append, refl, ap, ◌∙◌, sym, append_assoc, arith}
 use Rattle.std.proofs.lemmas.Grind.{common_steps}
-use Rattle.std.proofs.lemmas.List.{take_more}
+use Rattle.std.proofs.lemmas.List.{take_more, map-append}
 use Rattle.ruby_builtin_base.specs.Printed.{joined, pair_text, inspect, inspect_layer, inspect_pair}
 use Rattle.ruby_types.specs.Paths.{path_text}
 use Rattle.ruby_types.specs.declared.value.Value.{Value, fold_out-Value, map-Value}
@@ -12,10 +12,6 @@ use Rattle.ruby_types.specs.declared.value.Value.TheVariants.{Hash, outs-Hash, O
 pub joined-push : (x y : List ℕ) (xs : List (List ℕ)) → joined ((x ∷ xs) ++ y ∷ []) ≡ joined (x ∷ xs) ++ (44 ∷ 32 ∷ y)
 joined-push x y [] = refl
 joined-push x y (z ∷ zs) = ap (λ t. x ++ (44 ∷ 32 ∷ t)) (joined-push z y zs) ∙ sym (append_assoc x _ _)
-
-map-push : {X : Type 0} (f : X → List ℕ) (xs : List X) (y : X) → map f (xs ++ y ∷ []) ≡ map f xs ++ f y ∷ []
-map-push f [] y = refl
-map-push f (x ∷ xs) y = ap (λ t. f x ∷ t) (map-push f xs y)
 
 grow_first : (o0 o1 o2 o3 x : List ℕ) → o1 ≡ o0 ++ [] → o2 ≡ o1 → o3 ≡ o2 ++ x → o3 ≡ o0 ++ x
 grow_first o0 o1 o2 o3 x a b c = grind (arith, common_steps)
@@ -34,12 +30,12 @@ nil-push [] x = refl
 nil-push (y ∷ ys) x = refl
 
 -- one more member
-grow : {X : Type 0} (f : X → List ℕ) (ys : List X) (x : X) (o0 o1 o2 o3 : List ℕ) →
+joined_grows : {X : Type 0} (f : X → List ℕ) (ys : List X) (x : X) (o0 o1 o2 o3 : List ℕ) →
     o1 ≡ o0 ++ joined (map f ys) → o2 ≡ cond (is_nil ys) o1 (o1 ++ 44 ∷ 32 ∷ []) → o3 ≡ o2 ++ f x →
     o3 ≡ o0 ++ joined (map f (ys ++ x ∷ []))
-grow f [] x o0 o1 o2 o3 a b c = grow_first o0 o1 o2 o3 (f x) a b c
-grow f (y ∷ ys) x o0 o1 o2 o3 a b c =
-    grow_more o0 o1 o2 o3 (f x) (44 ∷ 32 ∷ []) _ _ a b c (ap joined (map-push f (y ∷ ys) x)
+joined_grows f [] x o0 o1 o2 o3 a b c = grow_first o0 o1 o2 o3 (f x) a b c
+joined_grows f (y ∷ ys) x o0 o1 o2 o3 a b c =
+    grow_more o0 o1 o2 o3 (f x) (44 ∷ 32 ∷ []) _ _ a b c (ap joined (map-append f (y ∷ ys) (x ∷ []))
     ∙ joined-push (f y) (f x) (map f ys))
 
 -- one step of writing members: with `, ` before it, unless it is the first
@@ -49,7 +45,8 @@ pub joined-more : {X : Type 0} (f : X → List ℕ) (xs : List X) (i : ℕ) (x :
     o2 ≡ cond first o1 (o1 ++ 44 ∷ 32 ∷ []) → o3 ≡ o2 ++ f x →
     (false ≡ is_nil (take (i + 1) xs)) × (o3 ≡ o0 ++ joined (map f (take (i + 1) xs)))
 joined-more f xs i x o0 o1 o2 o3 first h e inv b c =
-    rw (take_more xs i x h, ← e) (nil-push (take i xs) x, grow f (take i xs) x o0 o1 o2 o3 inv.1 (rw inv.0 at b) c)
+    rw (take_more xs i x h, ← e)
+    (nil-push (take i xs) x, joined_grows f (take i xs) x o0 o1 o2 o3 inv.1 (rw inv.0 at b) c)
 
 -- a pair as it is written piece by piece
 pub pair_steps : (o1 o2 o3 o4 k v : List ℕ) → o2 ≡ o1 ++ k → o3 ≡ o2 ++ 61 ∷ 62 ∷ [] → o4 ≡ o3 ++ v →
@@ -83,7 +80,7 @@ length-joined-push : {X : Type 0} (f : X → List ℕ) (ys : List X) (x : X) →
     ≡ length (joined (map f ys)) + (cond (is_nil ys) 0 2 + length (f x))
 length-joined-push f [] x = omega arith
 length-joined-push f (y ∷ ys) x =
-    ap (λ t. length (joined t)) (map-push f (y ∷ ys) x)
+    ap (λ t. length (joined t)) (map-append f (y ∷ ys) (x ∷ []))
     ∙ ap length (joined-push (f y) (f x) (map f ys))
     ∙ length-append (joined (map f (y ∷ ys))) (44 ∷ 32 ∷ f x)
     ∙ (omega arith)

@@ -7,25 +7,15 @@ use Rattle.std.specs.Ordering.{nat_cmp, is_eq}
 use Rattle.std.specs.Cmp.Lexicographic.{slice_cmp}
 use Rattle.std.specs.declared.cmp.Ordering.{Ordering}
 use Rattle.std.specs.declared.cmp.Ordering.TheVariants.{Less, Equal, Greater}
-use Rattle.std.proofs.lemmas.Bool.{and_parts}
+use Rattle.std.proofs.lemmas.Bool.{and_parts, false_from_ne_true}
+use Rattle.std.proofs.lemmas.Option.{none-some, same_Some}
+use Rattle.std.proofs.lemmas.Cmp.{nat_list_cmp_total}
 use Rattle.std.proofs.lemmas.Map.Text.{is_eq-slice_cmp}
 use Rattle.std.proofs.lemmas.Slice.Eq.{bytes_eq-Decides}
-use Rattle.case_table.specs.Rows.{IsLess, Rising, HasCode, HasNone, IsFault}
-use Rattle.case_table.specs.declared.CaseFault.{CaseFault}
-use Rattle.case_table.specs.declared.CaseFault.TheVariants.{NotRising}
+use Rattle.case_table.specs.Rows.{IsLess, Rising, HasCode, HasNone}
 use Rattle.ruby_builtin_base.specs.Rows.{row_of, row_at, numbered}
 
-one_row : {A : Type 0} (r s : A) → ◌≡◌ {A = Option A} (Some r) (Some s) → r ≡ s
-one_row r s e = cc
-
-no_row : {A : Type 0} (P : Type 0) (r : A) → ◌≡◌ {A = Option A} None (Some r) → P
-no_row P r e = absurd (cc)
-
 -- ---- finding
-
-not_true : (b : Bool) → (b ≡ true → ⊥) → b ≡ false
-not_true true never = absurd (never refl)
-not_true false never = refl
 
 less_differs : (a b : List ℕ) → IsLess a b → bytes_eq a b ≡ false
 less_differs a b less = sym (is_eq-slice_cmp a b) ∙ ap is_eq less
@@ -34,7 +24,7 @@ same_bytes : (a b : List ℕ) → a ≡ b → bytes_eq a b ≡ true
 same_bytes a b e = (bytes_eq-Decides a b).1 e
 
 other_bytes : (a b : List ℕ) → a ≢ b → bytes_eq a b ≡ false
-other_bytes a b other = not_true (bytes_eq a b) (λ e. other ((bytes_eq-Decides a b).0 e))
+other_bytes a b other = false_from_ne_true (bytes_eq a b) (λ e. other ((bytes_eq-Decides a b).0 e))
 
 later_rise : (r : List ℕ × ℕ) (rows : List (List ℕ × ℕ)) → Rising (r ∷ rows) → Rising rows
 later_rise r rows rise = λ i j x y below a b. rise (suc i) (suc j) x y (omega (arith, below)) a b
@@ -44,9 +34,9 @@ found_from : {Row : Type 0} (rows : List (List ℕ × Row)) (first i : ℕ) (nam
     Rising (numbered first rows) → slice_get (numbered first rows) i ≡ Some (name, place) →
     (place ≡ first + i) × (row_of rows name ≡ row_at rows i)
 unfolding row_of
-found_from [] first i name place rise at = no_row _ (name, place) at
+found_from [] first i name place rise at = absurd (none-some (name, place) at)
 found_from (row ∷ rows) first zero name place rise at =
-    let e : (row.0, first) ≡ (name, place) = one_row (row.0, first) (name, place) at in (
+    let e : (row.0, first) ≡ (name, place) = same_Some (row.0, first) (name, place) at in (
       omega (arith, ap (λ p. p.1) e),
       ap (λ b. cond b (Some row.1) (row_of rows name)) (same_bytes row.0 name (ap (λ p. p.0) e)),
     )
@@ -81,18 +71,15 @@ no_row_behind [] place behind = refl
 no_row_behind (row ∷ rows) zero behind = absurd (omega arith)
 no_row_behind (row ∷ rows) (suc place) behind = no_row_behind rows place (omega arith)
 
--- what a table of places answers is the row of the name, or that there is none
-pub place_is_row : {Row : Type 0} (rows : List (List ℕ × Row)) (table : List (List ℕ × ℕ)) (name : List ℕ)
-    (found : Option ℕ) → table ≡ numbered 0 rows → Rising table → IfSome found (HasCode table name) →
-    IfNone found (HasNone table name) →
+-- what is found among the places of rows is the row of the name, or that there is none
+pub place_is_row : {Row : Type 0} (rows : List (List ℕ × Row)) (name : List ℕ) (found : Option ℕ) →
+    Rising (numbered 0 rows) → IfSome found (HasCode (numbered 0 rows) name) →
+    IfNone found (HasNone (numbered 0 rows) name) →
     MatchOption found (row_of rows name ≡ None) (λ place. row_of rows name ≡ row_at rows place)
-place_is_row rows table name None are rise found none =
-    none_is_no_row rows 0 name (subst (λ (t : List (List ℕ × ℕ)). HasNone t name) are none)
-place_is_row rows table name (Some place) are rise found none =
-    found_is_row rows name place (subst Rising are rise)
-    (subst (λ (t : List (List ℕ × ℕ)). HasCode t name place) are found)
+place_is_row rows name None rise found none = none_is_no_row rows 0 name none
+place_is_row rows name (Some place) rise found none = found_is_row rows name place rise found
 
--- ---- rows that rise make a table
+-- ---- rows of which each name is less than the next
 
 abbrev is_less : Ordering → Bool
 is_less Less = true
@@ -110,25 +97,27 @@ rises [] = true
 rises (r ∷ []) = true
 rises (r ∷ s ∷ rows) = is_less (slice_cmp nat_cmp r.0 s.0) && rises (s ∷ rows)
 
-next_rises : (rows : List (List ℕ × ℕ)) (i n : ℕ) (r s : List ℕ × ℕ) → n ≡ i + 1 → rises rows ≡ true →
-    slice_get rows i ≡ Some r → slice_get rows n ≡ Some s → IsLess r.0 s.0
-next_rises [] i n r s e h a b = no_row _ r a
-next_rises (x ∷ []) zero zero r s e h a b = absurd (omega arith)
-next_rises (x ∷ []) zero (suc n) r s e h a b = no_row _ s b
-next_rises (x ∷ []) (suc i) n r s e h a b = no_row _ r a
-next_rises (x ∷ y ∷ rows) zero zero r s e h a b = absurd (omega arith)
-next_rises (x ∷ y ∷ rows) zero (suc zero) r s e h a b =
-    let first : x ≡ r = one_row x r a in
-    let second : y ≡ s = one_row y s b in
-    let less = less_is (slice_cmp nat_cmp x.0 y.0) (and_parts _ _ h).0 in
-    subst (λ (p : List ℕ × ℕ). IsLess p.0 s.0) first (subst (λ (p : List ℕ × ℕ). IsLess x.0 p.0) second less)
-next_rises (x ∷ y ∷ rows) zero (suc (suc n)) r s e h a b = absurd (omega arith)
-next_rises (x ∷ y ∷ rows) (suc i) zero r s e h a b = absurd (omega arith)
-next_rises (x ∷ y ∷ rows) (suc i) (suc n) r s e h a b = next_rises (y ∷ rows) i n r s (omega arith)
-    (and_parts _ _ h).1 a b
+first_is_less : (r : List ℕ × ℕ) (rows : List (List ℕ × ℕ)) (j : ℕ) (s : List ℕ × ℕ) → rises (r ∷ rows) ≡ true →
+    slice_get rows j ≡ Some s → IsLess r.0 s.0
+first_is_less r [] j s rise at = absurd (none-some s at)
+first_is_less r (x ∷ rows) zero s rise at =
+    subst (λ (p : List ℕ × ℕ). IsLess r.0 p.0) (same_Some x s at)
+    (less_is (slice_cmp nat_cmp r.0 x.0) (and_parts _ _ rise).0)
+first_is_less r (x ∷ rows) (suc j) s rise at =
+    let parts = and_parts _ _ rise in
+    nat_list_cmp_total.trans r.0 x.0 s.0 (less_is (slice_cmp nat_cmp r.0 x.0) parts.0)
+    (first_is_less x rows j s parts.1 at)
 
--- rows whose names rise have no fault
-pub rising_rows_make_a_table : (rows : List (List ℕ × ℕ)) (fault : CaseFault) → rises rows ≡ true →
-    IsFault rows fault → ⊥
-rising_rows_make_a_table rows (NotRising n) rise f =
-    f.falls (next_rises rows f.before n f.earlier f.later f.next rise f.earlier_at f.later_at)
+rest_rises : (r : List ℕ × ℕ) (rows : List (List ℕ × ℕ)) → rises (r ∷ rows) ≡ true → rises rows ≡ true
+rest_rises r [] rise = refl
+rest_rises r (x ∷ rows) rise = (and_parts _ _ rise).1
+
+-- each name of such rows is less than each later one
+pub rows_are_rising : (rows : List (List ℕ × ℕ)) → rises rows ≡ true → Rising rows
+rows_are_rising [] rise i j r s below a b = absurd (none-some r a)
+rows_are_rising (x ∷ rows) rise zero zero r s below a b = absurd (omega arith)
+rows_are_rising (x ∷ rows) rise zero (suc j) r s below a b =
+    subst (λ (p : List ℕ × ℕ). IsLess p.0 s.0) (same_Some x r a) (first_is_less x rows j s rise b)
+rows_are_rising (x ∷ rows) rise (suc i) zero r s below a b = absurd (omega arith)
+rows_are_rising (x ∷ rows) rise (suc i) (suc j) r s below a b =
+    rows_are_rising rows (rest_rises x rows rise) i j r s (omega (arith, below)) a b

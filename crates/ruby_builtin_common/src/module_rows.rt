@@ -1,10 +1,9 @@
 ghost use Rattle.std.specs.Prelude.{◌≡◌, MatchOption, None};
-ghost use Rattle.case_table.specs.Rows.{Rising};
 ghost use Rattle.ruby_builtin_base.specs.Answers.{OrMemory, Says, row_answered};
-ghost use Rattle.ruby_builtin_base.specs.Rows.{row_of, row_at, numbered};
+ghost use Rattle.ruby_builtin_base.specs.Rows.{row_of, row_at};
 ghost use Rattle.ruby_builtin_common.specs.CommonRows.{module_rows};
 
-use case_table::{Case, CaseTable, cases};
+use case_table::{Case, cases, find_in};
 use plain_text::path_text;
 use ruby_builtin_base::{Call, Called};
 use ruby_types::{CPath, Value, path_size};
@@ -17,22 +16,12 @@ static ROWS: [Case; 1] = [Case {
     code: NAME,
 }];
 
-fn module_table() -> CaseTable<1>
-    ensures rows { result ≡ numbered 0 module_rows }
-    ensures rising { Rising result }
-{
-    match CaseTable::new(ROWS) {
-        Ok(table) => table,
-        Err(_) => unreachable!(),
-    }
-}
-
 /// The place of the row with this name.
 fn place(name: &[u8]) -> Option<u16>
     ensures { MatchOption result (row_of module_rows name.now ≡ None)
         (λ place. row_of module_rows name.now ≡ row_at module_rows place) }
 {
-    module_table().find(name)
+    find_in(&ROWS, name)
 }
 
 /// Answers a call of a method of modules.

@@ -1,10 +1,9 @@
 ghost use Rattle.std.specs.Prelude.{◌≡◌, MatchOption, None};
-ghost use Rattle.case_table.specs.Rows.{Rising};
 ghost use Rattle.ruby_builtin_base.specs.Answers.{OrMemory, Says, row_answered};
-ghost use Rattle.ruby_builtin_base.specs.Rows.{row_of, row_at, numbered};
+ghost use Rattle.ruby_builtin_base.specs.Rows.{row_of, row_at};
 ghost use Rattle.ruby_builtin_common.specs.CommonRows.{sym_rows};
 
-use case_table::{Case, CaseTable, cases};
+use case_table::{Case, cases, find_in};
 use lists::Copying;
 use ruby_builtin_base::{Call, Called, character_count};
 use ruby_types::{Text, Value};
@@ -25,22 +24,12 @@ static ROWS: [Case; 2] = [
     },
 ];
 
-fn sym_table() -> CaseTable<2>
-    ensures rows { result ≡ numbered 0 sym_rows }
-    ensures rising { Rising result }
-{
-    match CaseTable::new(ROWS) {
-        Ok(table) => table,
-        Err(_) => unreachable!(),
-    }
-}
-
 /// The place of the row with this name.
 fn place(name: &[u8]) -> Option<u16>
     ensures { MatchOption result (row_of sym_rows name.now ≡ None)
         (λ place. row_of sym_rows name.now ≡ row_at sym_rows place) }
 {
-    sym_table().find(name)
+    find_in(&ROWS, name)
 }
 
 /// Answers a call of a method of symbols.

@@ -1,10 +1,9 @@
 ghost use Rattle.std.specs.Prelude.{◌≡◌, MatchOption, None};
-ghost use Rattle.case_table.specs.Rows.{Rising};
 ghost use Rattle.ruby_builtin_base.specs.Answers.{OrMemory, Says, row_answered};
-ghost use Rattle.ruby_builtin_base.specs.Rows.{row_of, row_at, numbered};
+ghost use Rattle.ruby_builtin_base.specs.Rows.{row_of, row_at};
 ghost use Rattle.ruby_builtin_common.specs.CommonRows.{value_rows};
 
-use case_table::{Case, CaseTable, cases};
+use case_table::{Case, cases, find_in};
 use ruby_builtin_base::{Call, Called, inspect, inspect_len, to_s, to_s_len};
 use ruby_types::{Value, copy, equal, size};
 
@@ -48,22 +47,12 @@ static ROWS: [Case; 6] = [
     },
 ];
 
-fn value_table() -> CaseTable<6>
-    ensures rows { result ≡ numbered 0 value_rows }
-    ensures rising { Rising result }
-{
-    match CaseTable::new(ROWS) {
-        Ok(table) => table,
-        Err(_) => unreachable!(),
-    }
-}
-
 /// The place of the row with this name.
 fn place(name: &[u8]) -> Option<u16>
     ensures { MatchOption result (row_of value_rows name.now ≡ None)
         (λ place. row_of value_rows name.now ≡ row_at value_rows place) }
 {
-    value_table().find(name)
+    find_in(&ROWS, name)
 }
 
 /// Answers a call of a method that every value has.

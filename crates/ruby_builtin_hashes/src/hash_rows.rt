@@ -1,13 +1,12 @@
 ghost use Rattle.std.specs.Prelude.{◌≡◌, MatchOption, None};
-ghost use Rattle.case_table.specs.Rows.{Rising};
 ghost use Rattle.ruby_builtin_base.specs.Answers.{OrMemory, Says, row_answered};
-ghost use Rattle.ruby_builtin_base.specs.Rows.{row_of, row_at, numbered};
+ghost use Rattle.ruby_builtin_base.specs.Rows.{row_of, row_at};
 ghost use Rattle.ruby_builtin_hashes.specs.HashRows.{hash_rows};
 
 use crate::finding::{fetched, gives_value, value_at};
 use crate::listing::{gives_keys, gives_pair_arrays, gives_values};
 use crate::merging::gives_merged;
-use case_table::{Case, CaseTable, cases};
+use case_table::{Case, cases, find_in};
 use ruby_builtin_base::{Call, Called};
 use ruby_types::Pairs;
 
@@ -75,22 +74,12 @@ static ROWS: [Case; 10] = [
     },
 ];
 
-fn hash_table() -> CaseTable<10>
-    ensures rows { result ≡ numbered 0 hash_rows }
-    ensures rising { Rising result }
-{
-    match CaseTable::new(ROWS) {
-        Ok(table) => table,
-        Err(_) => unreachable!(),
-    }
-}
-
 /// The place of the row with this name.
 fn place(name: &[u8]) -> Option<u16>
     ensures { MatchOption result (row_of hash_rows name.now ≡ None)
         (λ place. row_of hash_rows name.now ≡ row_at hash_rows place) }
 {
-    hash_table().find(name)
+    find_in(&ROWS, name)
 }
 
 /// Answers a call of a method of hashes.

@@ -13,6 +13,7 @@ use Rattle.ruby_types.specs.declared.value.Value.{Value, Value-F, map-Value, rol
 use Rattle.ruby_types.specs.declared.value.Value.{fold-roll-Value, fold_out-Value, ind-Value}
 use Rattle.ruby_types.specs.declared.value.Value.TheOpen as layer
 use Rattle.ruby_builtin_keys.specs.Digest.{mixed, mixed_all, mixed_names, digest_layer, digest}
+use Rattle.std.proofs.lemmas.List.{length-map}
 
 abbrev HasOneDigest : Value → Type 0
 HasOneDigest v = (w : Value) → same v w ≡ true → digest v ≡ digest w
@@ -41,34 +42,30 @@ same_items (h ∷ hs) (y ∷ ys) e =
     ap (λ d. d ∷ map digest (map value_of hs)) (h.1 y parts.0)
     ∙ ap (λ ds. digest y ∷ ds) (same_items hs ys parts.1)
 
-length-mapped : {A B : Type 0} (f : A → B) (xs : List A) → length (map f xs) ≡ length xs
-length-mapped f [] = refl
-length-mapped f (x ∷ xs) = omega (arith, length-mapped f xs)
-
 same_length : (m n : ℕ) → nat_eq m n ≡ true → m ≡ n
 same_length m n e = grind (arith, nat_tests)
 
 abbrev level_digest : Value-F Value → ℕ
 level_digest x = digest_layer (map-Value Value ℕ digest x)
 
-level : (y : Value-F Held) (z : Value-F Value) → same_open (map-Value Held Value value_of y) z ≡ true →
+same_levels : (y : Value-F Held) (z : Value-F Value) → same_open (map-Value Held Value value_of y) z ≡ true →
     level_digest (map-Value Held Value value_of y) ≡ level_digest z
-level layer.Nil layer.Nil e = refl
-level layer.True layer.True e = refl
-level layer.False layer.False e = refl
-level (layer.Int m) (layer.Int n) e = ap (λ k. cast_unsigned w64 k) ((signed_Decides m n).0 e)
-level (layer.Str s) (layer.Str t) e = ap (mixed_all 4) ((bytes_eq-Decides s t).0 e)
-level (layer.Sym s) (layer.Sym t) e = ap (mixed_all 5) ((bytes_eq-Decides s t).0 e)
-level (layer.Array hs) (layer.Array ys) e = ap (mixed_all 6) (same_items hs ys e)
-level (layer.Hash ps) (layer.Hash qs) e =
+same_levels layer.Nil layer.Nil e = refl
+same_levels layer.True layer.True e = refl
+same_levels layer.False layer.False e = refl
+same_levels (layer.Int m) (layer.Int n) e = ap (λ k. cast_unsigned w64 k) ((signed_Decides m n).0 e)
+same_levels (layer.Str s) (layer.Str t) e = ap (mixed_all 4) ((bytes_eq-Decides s t).0 e)
+same_levels (layer.Sym s) (layer.Sym t) e = ap (mixed_all 5) ((bytes_eq-Decides s t).0 e)
+same_levels (layer.Array hs) (layer.Array ys) e = ap (mixed_all 6) (same_items hs ys e)
+same_levels (layer.Hash ps) (layer.Hash qs) e =
     let own : List (Value × Value) = map (λ (p : Held × Held). (p.0.0, p.1.0)) ps in
     let long = same_length (length own) (length qs) (and_parts _ (same_counts same_both own own qs) e).0 in
-    ap (mixed 7) (length-mapped (λ (p : Value × Value). (digest p.0, digest p.1)) own ∙ long
-    ∙ sym (length-mapped (λ (p : Value × Value). (digest p.0, digest p.1)) qs))
-level (layer.Module p) (layer.Module q) e = ap (mixed_names 8) (same_names p q e)
-level (layer.Object p xs) (layer.Object q ys) e =
+    ap (mixed 7) (length-map own (λ (p : Value × Value). (digest p.0, digest p.1)) ∙ long
+    ∙ sym (length-map qs (λ (p : Value × Value). (digest p.0, digest p.1))))
+same_levels (layer.Module p) (layer.Module q) e = ap (mixed_names 8) (same_names p q e)
+same_levels (layer.Object p xs) (layer.Object q ys) e =
     ap (mixed_names 9) (same_names p q (and_parts (same_each bytes_eq p q) _ e).0)
-level _ _ e = absurd (false≢true e)
+same_levels _ _ e = absurd (false≢true e)
 
 -- what an index by digests stands on
 pub same_digest : (v w : Value) → same v w ≡ true → digest v ≡ digest w
@@ -77,5 +74,5 @@ same_digest = ind-Value HasOneDigest (λ x y is w e.
     ap (λ l. same_open l (out-Value w)) (sym (out-roll-Value x)) ∙ sym (same_is (roll-Value x) w) ∙ e in
     fold-roll-Value ℕ digest_layer x
     ∙ subst (λ (l : Value-F Value). same_open l (out-Value w) ≡ true → level_digest l ≡ level_digest (out-Value w)) is
-    (level y (out-Value w)) here
+    (same_levels y (out-Value w)) here
     ∙ sym (fold_out-Value ℕ digest_layer w))

@@ -23,12 +23,13 @@ get_behind (q ∷ front) p ps = get_behind front p ps
 -- at one pair: it has the key, or it is passed
 module _ (all : List Pair) (key : Value) (here : ℕ) (p : Pair) (rest : List ℕ) (later : Option ℕ)
     (at : slice_get all here ≡ Some p) (goes_on : first_of all key rest ≡ later) where
-  step : (s t : Bool) → same p.0 key ≡ s → (s ≡ true → t ≡ true) →
+  found_or_later : (s t : Bool) → same p.0 key ≡ s → (s ≡ true → t ≡ true) →
       first_of all key (cond t (here ∷ rest) rest) ≡ cond s (Some here) later
-  step true true is hit = ap (λ b. cond b (Some here) (first_of all key rest)) (ap (has_key key) at ∙ is)
-  step false true is hit = ap (λ b. cond b (Some here) (first_of all key rest)) (ap (has_key key) at ∙ is) ∙ goes_on
-  step true false is hit = absurd (false≢true (hit refl))
-  step false false is hit = goes_on
+  found_or_later true true is hit = ap (λ b. cond b (Some here) (first_of all key rest)) (ap (has_key key) at ∙ is)
+  found_or_later false true is hit =
+      ap (λ b. cond b (Some here) (first_of all key rest)) (ap (has_key key) at ∙ is) ∙ goes_on
+  found_or_later true false is hit = absurd (false≢true (hit refl))
+  found_or_later false false is hit = goes_on
 
 found_from : (test : ℕ → Bool) (key : Value) → test (digest key) ≡ true → (front ps : List Pair) (first : ℕ) →
     first ≡ length front →
@@ -38,7 +39,7 @@ found_from test key hit front (p ∷ ps) first is =
     let next : first_of (front ++ p ∷ ps) key (places test (first + 1) ps) ≡ first_at (first + 1) ps key =
     ap (λ all. first_of all key (places test (first + 1) ps)) (sym (append_assoc front (p ∷ []) ps))
     ∙ found_from test key hit (front ++ p ∷ []) ps (first + 1) (omega (arith, length-append front (p ∷ []))) in
-    step (front ++ p ∷ ps) key first p (places test (first + 1) ps) (first_at (first + 1) ps key)
+    found_or_later (front ++ p ∷ ps) key first p (places test (first + 1) ps) (first_at (first + 1) ps key)
     (ap (slice_get (front ++ p ∷ ps)) is ∙ get_behind front p ps) next (same p.0 key) (test (digest p.0)) refl
     (λ e. ap test (same_digest p.0 key e) ∙ hit)
 

@@ -1,13 +1,12 @@
 ghost use Rattle.std.specs.Prelude.{◌≡◌, ◌≢◌, [], ◌∷◌, pos, MatchOption, MatchResult, IfOk, None};
 ghost use Rattle.ruby_builtin_base.specs.Answers.{OrMemory, Says, Gives, IsRead, IsRefused, answered, row_answered};
 ghost use Rattle.ruby_types.specs.declared.value.Value.TheVariants.{Array, Int};
-ghost use Rattle.case_table.specs.Rows.{Rising};
-ghost use Rattle.ruby_builtin_base.specs.Rows.{row_of, row_at, numbered};
+ghost use Rattle.ruby_builtin_base.specs.Rows.{row_of, row_at};
 ghost use Rattle.ruby_builtin_numbers.specs.IntRows as spec;
 ghost use Rattle.ruby_builtin_numbers.specs.IntRows.{int_rows, takes_divisor};
 
 use crate::whole::{difference, floor_div, floor_rem, magnitude, negated, product, sum};
-use case_table::{Case, CaseTable, cases};
+use case_table::{Case, cases, find_in};
 use ruby_builtin_base::{Call, Called};
 use ruby_types::{ErrorClass, Items, Value};
 use std::alloc::{AllocError, Global};
@@ -136,22 +135,12 @@ static ROWS: [Case; 20] = [
     },
 ];
 
-fn int_table() -> CaseTable<20>
-    ensures rows { result ≡ numbered 0 int_rows }
-    ensures rising { Rising result }
-{
-    match CaseTable::new(ROWS) {
-        Ok(table) => table,
-        Err(_) => unreachable!(),
-    }
-}
-
 /// The place of the row with this name.
 fn place(name: &[u8]) -> Option<u16>
     ensures { MatchOption result (row_of int_rows name.now ≡ None)
         (λ place. row_of int_rows name.now ≡ row_at int_rows place) }
 {
-    int_table().find(name)
+    find_in(&ROWS, name)
 }
 
 /// The one argument that is a number and not 0, or the answer to others.

@@ -4,15 +4,15 @@ use Rattle.std.proofs.Common.{ap, ◌∙◌, arith}
 use Rattle.std.proofs.lemmas.List.{length-reverse, reverse-reverse}
 use Rattle.ruby_builtin_texts.specs.Parts.{is_white, without_leading_white, without_trailing_white, stripped}
 
-shorter : (byte : ℕ) (bytes : List ℕ) (white : Bool) → length (without_leading_white bytes) ≤ length bytes →
+not_longer_before : (byte : ℕ) (bytes : List ℕ) (white : Bool) → length (without_leading_white bytes) ≤ length bytes →
     length (cond white (without_leading_white bytes) (byte ∷ bytes)) ≤ length (byte ∷ bytes)
-shorter byte bytes true le = omega arith
-shorter byte bytes false le = omega arith
+not_longer_before byte bytes true le = omega arith
+not_longer_before byte bytes false le = omega arith
 
 length-without_leading_white : (text : List ℕ) → length (without_leading_white text) ≤ length text
 length-without_leading_white [] = omega arith
 length-without_leading_white (byte ∷ bytes) =
-    shorter byte bytes (is_white byte) (length-without_leading_white bytes)
+    not_longer_before byte bytes (is_white byte) (length-without_leading_white bytes)
 
 no_white : (byte : ℕ) (bytes : List ℕ) (white : Bool) → length (without_leading_white bytes) ≤ length bytes →
     length (byte ∷ bytes) ≤ length (cond white (without_leading_white bytes) (byte ∷ bytes)) →

@@ -3,6 +3,7 @@ use Rattle.std.proofs.Common.{◌≡◌, ℕ, zero, suc, ◌≤◌, Bool, true, 
 use Rattle.std.proofs.Common.{Option, Some, None, refl, sym, ap, ◌∙◌, arith, length-take, length-drop, nat_eq}
 use Rattle.std.specs.List.{starts_with}
 use Rattle.std.specs.Option.{is_some}
+use Rattle.std.proofs.lemmas.Bool.{false_from_ne_true}
 use Rattle.std.proofs.lemmas.Slice.Eq.{bytes_eq-Decides}
 use Rattle.memchr.specs.Find.{FindsNeedle, OccursAt}
 use Rattle.memchr.proofs.lemmas.MatchLemmas.{OccursAt-part, OccursAt-from_part}
@@ -29,25 +30,21 @@ from_place (byte ∷ bytes) part (suc k) within begins =
 abbrev Place : List ℕ → List ℕ → Type 0
 Place text part = (k : ℕ) × (k ≤ length text) × (starts_with nat_eq (drop k text) part ≡ true)
 
-further : (byte : ℕ) (bytes part : List ℕ) → Place bytes part → Place (byte ∷ bytes) part
-further byte bytes part (k, within, begins) = (suc k, omega arith, begins)
+place_behind : (byte : ℕ) (bytes part : List ℕ) → Place bytes part → Place (byte ∷ bytes) part
+place_behind byte bytes part (k, within, begins) = (suc k, omega arith, begins)
 
 here_or_further : (byte : ℕ) (bytes part : List ℕ) (here : Bool) → here ≡ starts_with nat_eq (byte ∷ bytes) part →
     here || has_part bytes part ≡ true → (has_part bytes part ≡ true → Place bytes part) → Place (byte ∷ bytes) part
 here_or_further byte bytes part true e or later = (0, omega arith, sym e)
-here_or_further byte bytes part false e or later = further byte bytes part (later or)
+here_or_further byte bytes part false e or later = place_behind byte bytes part (later or)
 
 place_of : (text part : List ℕ) → has_part text part ≡ true → Place text part
 place_of [] part e = (0, omega arith, e)
 place_of (byte ∷ bytes) part e =
     here_or_further byte bytes part (starts_with nat_eq (byte ∷ bytes) part) refl e (place_of bytes part)
 
-not_true : (b : Bool) → (b ≡ true → ⊥) → false ≡ b
-not_true true never = absurd (never refl)
-not_true false never = refl
-
-occurs : (text part : List ℕ) → Place text part → (k : ℕ) × (k ≤ length text) × OccursAt text part k
-occurs text part (k, within, begins) =
+place_occurs : (text part : List ℕ) → Place text part → (k : ℕ) × (k ≤ length text) × OccursAt text part k
+place_occurs text part (k, within, begins) =
     let same : part ≡ take (length part) (drop k text) =
     (bytes_eq-Decides part (take (length part) (drop k text))).0 begins in (
       k,
@@ -60,8 +57,9 @@ occurs text part (k, within, begins) =
 pub found_is_part : (text part : List ℕ) (found : Option ℕ) → FindsNeedle text part 0 found →
     is_some found ≡ has_part text part
 found_is_part text part None nowhere =
-    not_true (has_part text part)
-    (λ e. let at = occurs text part (place_of text part e) in nowhere at.0 (omega arith) (omega (arith, at.1)) at.2)
+    sym (false_from_ne_true (has_part text part)
+    (λ e. let at = place_occurs text part (place_of text part e) in
+    nowhere at.0 (omega arith) (omega (arith, at.1)) at.2))
 found_is_part text part (Some k) found =
     let first = found.0 in
     sym (from_place text part k (omega (arith, first.high))

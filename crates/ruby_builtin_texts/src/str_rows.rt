@@ -1,7 +1,6 @@
-ghost use Rattle.case_table.specs.Rows.{Rising};
 ghost use Rattle.ruby_builtin_base.specs.Answers.{OrMemory, Says, Gives, answered, row_answered};
 ghost use Rattle.ruby_builtin_base.specs.Characters.{characters};
-ghost use Rattle.ruby_builtin_base.specs.Rows.{row_of, row_at, numbered};
+ghost use Rattle.ruby_builtin_base.specs.Rows.{row_of, row_at};
 ghost use Rattle.ruby_builtin_texts.specs.Parts as parts_of;
 ghost use Rattle.ruby_builtin_texts.specs.StrRows as spec;
 ghost use Rattle.ruby_builtin_texts.specs.StrRows.{str_rows};
@@ -19,7 +18,7 @@ use crate::parts::{
     compared, ends_with, has_part, joined, repeated, starts_with, stripped, stripped_text,
 };
 use crate::sizes::{characters_size, repeated_size, reversed_size, size};
-use case_table::{Case, CaseTable, cases};
+use case_table::{Case, cases, find_in};
 use lists::Copying;
 use ruby_builtin_base::{Call, Called, character_count};
 use ruby_types::{ErrorClass, Text, Value};
@@ -160,22 +159,12 @@ static ROWS: [Case; 22] = [
     },
 ];
 
-fn str_table() -> CaseTable<22>
-    ensures rows { result ≡ numbered 0 str_rows }
-    ensures rising { Rising result }
-{
-    match CaseTable::new(ROWS) {
-        Ok(table) => table,
-        Err(_) => unreachable!(),
-    }
-}
-
 /// The place of the row with this name.
 fn place(name: &[u8]) -> Option<u16>
     ensures { MatchOption result (row_of str_rows name.now ≡ None)
         (λ place. row_of str_rows name.now ≡ row_at str_rows place) }
 {
-    str_table().find(name)
+    find_in(&ROWS, name)
 }
 
 /// A text so many times.

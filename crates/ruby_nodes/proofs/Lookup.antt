@@ -1,5 +1,5 @@
 -- A node of a table stands for its level over what its children stand for.
-use Rattle.std.proofs.Common.{◌≡◌, ℕ, zero, suc, ◌+◌, ◌<◌, ◌≤◌, List, [], ◌∷◌, ◌++◌, length, get_or, refl, sym, ap}
+use Rattle.std.proofs.Common.{◌≡◌, ℕ, zero, suc, ◌+◌, ◌<◌, List, [], ◌∷◌, ◌++◌, length, get_or, refl, sym}
 use Rattle.std.proofs.Common.{subst, ◌∙◌, arith, append-nil, append_assoc, length-append}
 use Rattle.std.proofs.lemmas.List.{get_or_append_left}
 use Rattle.std.proofs.Math.Seq.{get_or-append_seam}
@@ -40,7 +40,7 @@ entry_of_append_left known rest n b = at n b
     at (node.Ivar name) b = refl
     at (node.Const constant) b = refl
     at (node.Array x) b = rw (keeps x b) refl
-    at (node.Hash x) b = rw (keeps x b) refl
+    at (node.Hash x count) b = rw (keeps x b) refl
     at (node.OwnCall name x) b = rw (keeps x b) refl
     at (node.Call x name y) b = rw (keeps x b.0, keeps y b.1) refl
     at (node.Not x) b = rw (keeps x b) refl

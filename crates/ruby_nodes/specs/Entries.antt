@@ -1,5 +1,5 @@
 -- The trees that the nodes of a table stand for.
-use Rattle.std.specs.Prelude.{◌≡◌, ℕ, zero, suc, ◌<◌, Option, Some, None, List, [], ◌∷◌, ◌++◌, length, slice_index_or}
+use Rattle.std.specs.Prelude.{◌≡◌, ℕ, suc, ◌<◌, Some, None, List, [], ◌∷◌, ◌++◌, length, slice_index_or}
 use Rattle.ruby_types.specs.declared.tree.Expr.{Expr}
 use Rattle.ruby_types.specs.declared.tree.Expr.TheVariants as expr
 use Rattle.ruby_types.specs.declared.tree.Part.{Part}
@@ -22,21 +22,27 @@ pub record Entry : Type 0 where
 abbrev pub no_entry : Entry
 no_entry = record { expr = expr.Nil; items = []; pairs = []; parts = []; body = []; arms = [] }
 
+-- the entry of an expression
 abbrev pub an_expr : Expr → Entry
 an_expr e = record { expr = e; items = []; pairs = []; parts = []; body = []; arms = [] }
 
+-- the entry of items or arguments
 abbrev pub items_entry : List Expr → Entry
 items_entry es = record { expr = expr.Nil; items = es; pairs = []; parts = []; body = []; arms = [] }
 
+-- the entry of the pairs of a hash
 abbrev pub pairs_entry : List (Expr × Expr) → Entry
 pairs_entry ps = record { expr = expr.Nil; items = []; pairs = ps; parts = []; body = []; arms = [] }
 
+-- the entry of the pieces of a text
 abbrev pub parts_entry : List Part → Entry
 parts_entry ps = record { expr = expr.Nil; items = []; pairs = []; parts = ps; body = []; arms = [] }
 
+-- the entry of statements
 abbrev pub body_entry : List Stmt → Entry
 body_entry ss = record { expr = expr.Nil; items = []; pairs = []; parts = []; body = ss; arms = [] }
 
+-- the entry of the arms of an `if`
 abbrev pub arms_entry : List (Expr × List Stmt) → Entry
 arms_entry xs = record { expr = expr.Nil; items = []; pairs = []; parts = []; body = []; arms = xs }
 
@@ -57,7 +63,7 @@ entry_of known (node.Local name) = an_expr (expr.Local name)
 entry_of known (node.Ivar name) = an_expr (expr.Ivar name)
 entry_of known (node.Const constant) = an_expr (expr.Const constant)
 entry_of known (node.Array first) = an_expr (expr.Array (entry_at known first).items)
-entry_of known (node.Hash first) = an_expr (expr.Hash (entry_at known first).pairs)
+entry_of known (node.Hash first count) = an_expr (expr.Hash (entry_at known first).pairs)
 entry_of known (node.OwnCall name first) = an_expr (expr.Call None name (entry_at known first).items)
 entry_of known (node.Call on name first) =
     an_expr (expr.Call (Some (entry_at known on).expr) name (entry_at known first).items)
@@ -99,7 +105,7 @@ entries = entries_from []
 abbrev pub Below : ℕ → Node → Type 0
 Below k (node.Str first) = first < k
 Below k (node.Array first) = first < k
-Below k (node.Hash first) = first < k
+Below k (node.Hash first count) = first < k
 Below k (node.OwnCall name first) = first < k
 Below k (node.Call on name first) = (on < k) × (first < k)
 Below k (node.Not a) = a < k
@@ -138,3 +144,15 @@ pub record Stands (known : List Entry) (at : ℕ) (entry : Entry) : Type 0 where
 -- there is a node of this number
 abbrev pub IsThere : List Entry → ℕ → Type 0
 IsThere known at = at < length known
+
+-- a piece, and those from a node on
+abbrev pub part_before : List Entry → Part → ℕ → Entry
+part_before known part next = parts_entry (part ∷ (entry_at known next).parts)
+
+-- a statement, and those from a node on
+abbrev pub stmt_before : List Entry → Stmt → ℕ → Entry
+stmt_before known stmt next = body_entry (stmt ∷ (entry_at known next).body)
+
+-- an arm, and those from a node on
+abbrev pub arm_before : List Entry → Expr → List Stmt → ℕ → Entry
+arm_before known test body next = arms_entry ((test, body) ∷ (entry_at known next).arms)

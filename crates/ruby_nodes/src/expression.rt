@@ -1,6 +1,6 @@
 ghost use Rattle.std.specs.Prelude.{◌≡◌, [], ◌∷◌, ◌++◌, IfOk};
-ghost use Rattle.ruby_nodes.specs.Entries.{Extends, IsThere, Stands, an_expr, entry_at, items_entry, pairs_entry};
-ghost use Rattle.ruby_nodes.specs.Entries.{parts_entry};
+ghost use Rattle.ruby_nodes.specs.Entries.{Extends, IsThere, Stands, an_expr, items_entry, pairs_entry};
+ghost use Rattle.ruby_nodes.specs.Entries.{part_before, parts_entry};
 
 use crate::table::{Node, NodeTable};
 use lists::Copying;
@@ -42,7 +42,7 @@ pub fn push_expr(table: &mut NodeTable, expr: &Expr) -> Result<u32, AllocError>
         }
         Expr::Hash(pairs) => {
             let first = push_pairs(table, pairs.as_slice())?;
-            table.push(Node::Hash(first))
+            table.push(Node::Hash(first, pairs.len()))
         }
         Expr::Call {
             on: None,
@@ -164,7 +164,7 @@ pub fn push_parts(table: &mut NodeTable, parts: &[Part]) -> Result<u32, AllocErr
 fn push_part(table: &mut NodeTable, part: &Part, next: u32) -> Result<u32, AllocError>
     requires { IsThere table.old next }
     ensures extends { Extends table.old table.new }
-    ensures stands { IfOk result (λ at. Stands table.new at (parts_entry (part.now ∷ (entry_at table.old next).parts))) }
+    ensures stands { IfOk result (λ at. Stands table.new at (part_before table.old part.now next)) }
 {
     match part {
         Part::Plain(bytes) => table.push(Node::Plain(bytes.copy()?, next)),

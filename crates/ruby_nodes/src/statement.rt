@@ -1,5 +1,6 @@
 ghost use Rattle.std.specs.Prelude.{◌≡◌, [], ◌∷◌, ◌++◌, IfOk};
-ghost use Rattle.ruby_nodes.specs.Entries.{Extends, IsThere, Stands, arms_entry, body_entry, entry_at};
+ghost use Rattle.ruby_nodes.specs.Entries.{stmt_before};
+ghost use Rattle.ruby_nodes.specs.Entries.{Extends, IsThere, Stands, arm_before, arms_entry, body_entry};
 ghost use Rattle.ruby_types.specs.declared.tree.Stmt.TheVariants as stmt;
 
 use crate::expression::push_expr;
@@ -39,7 +40,7 @@ pub fn push_arms(table: &mut NodeTable, arms: &[(Expr, Stmts)]) -> Result<u32, A
 fn push_arm(table: &mut NodeTable, test: &Expr, body: &[Stmt], next: u32) -> Result<u32, AllocError>
     requires { IsThere table.old next }
     ensures extends { Extends table.old table.new }
-    ensures stands { IfOk result (λ at. Stands table.new at (arms_entry ((test.now, body.now) ∷ (entry_at table.old next).arms))) }
+    ensures stands { IfOk result (λ at. Stands table.new at (arm_before table.old test.now body.now next)) }
 {
     let test = push_expr(table, test)?;
     let body = push_body(table, body)?;
@@ -50,7 +51,7 @@ fn push_arm(table: &mut NodeTable, test: &Expr, body: &[Stmt], next: u32) -> Res
 fn push_stmt(table: &mut NodeTable, stmt: &Stmt, next: u32) -> Result<u32, AllocError>
     requires { IsThere table.old next }
     ensures extends { Extends table.old table.new }
-    ensures stands { IfOk result (λ at. Stands table.new at (body_entry (stmt.now ∷ (entry_at table.old next).body))) }
+    ensures stands { IfOk result (λ at. Stands table.new at (stmt_before table.old stmt.now next)) }
 {
     match stmt {
         Stmt::Expr(expr) => {
@@ -95,7 +96,7 @@ fn push_if(
     requires { IsThere table.old next }
     ensures extends { Extends table.old table.new }
     ensures stands { IfOk result
-        (λ at. Stands table.new at (body_entry (stmt.If arms.now other.now after ∷ (entry_at table.old next).body))) }
+        (λ at. Stands table.new at (stmt_before table.old (stmt.If arms.now other.now after) next)) }
 {
     let arms = push_arms(table, arms)?;
     let other = push_body(table, other)?;

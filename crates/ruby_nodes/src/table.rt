@@ -21,8 +21,8 @@ pub enum Node {
     Const(ConstRef),
     /// An array, by the first of its items.
     Array(u32),
-    /// A hash, by the first of its pairs.
-    Hash(u32),
+    /// A hash, by the first of its pairs, and how many they are.
+    Hash(u32, usize),
     /// A call on self: its name, and the first of its arguments.
     OwnCall(Text, u32),
     /// A call on a receiver: this, its name, and the first of its arguments.
@@ -91,7 +91,7 @@ impl NodeTable {
         }
     }
 
-    /// Adds a node at the end and gives its number. An error where memory or numbers run out leaves the table as it was.
+    /// Adds a node at the end and gives its number. Where memory or numbers run out, the table is as it was.
     pub fn push(&mut self, node: Node) -> Result<u32, AllocError>
         requires { Below (length self.old) node }
         ensures extends { Extends self.old self.new }

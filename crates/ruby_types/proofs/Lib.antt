@@ -1,3 +1,4 @@
+mod PairingLaws
 mod PrefixLaws
 pub mod SameLaws
 mod SizeLaws

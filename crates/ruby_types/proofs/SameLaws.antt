@@ -7,10 +7,11 @@ use Rattle.ruby_types.specs.declared.value.Value.{roll-out-Value, map-Value}
 use Rattle.ruby_types.specs.declared.value.Value.TheOpen as layer
 use Rattle.ruby_types.specs.declared.value.Value.TheVariants as v
 use Rattle.std.specs.Ordering.{int_eq}
+use Rattle.std.proofs.Math.Bool.{and-false}
 use Rattle.std.proofs.lemmas.Bool.{eq-eqb}
 use Rattle.std.proofs.lemmas.Bool.Decides.{nat_tests}
 use Rattle.std.proofs.Common.{arith, eqb}
-use Rattle.std.proofs.Common.{ℤ, drop, get_or, ◌<◌, ◌+◌, drop-cons, add-one}
+use Rattle.std.proofs.Common.{zero, subst, ℤ, drop, get_or, ◌<◌, ◌+◌, drop-cons, add-one}
 use Rattle.ruby_types.specs.Same.{same, same_both, same_each, same_pair, same_counts, same_layer, pair_of}
 
 abbrev Tested : Type 0
@@ -61,24 +62,25 @@ abbrev pub same_open : Value-F Value → Value-F Value → Bool
 same_open (layer.Hash ps) (layer.Hash qs) = nat_eq (length ps) (length qs) && same_counts same_both ps ps qs
 same_open x y = same_layer (λ v. v) same x y
 
-layers : (x y : Value-F Value) →
+same_layer-tested : (x y : Value-F Value) →
     same_layer (λ c. c.0) (λ c. c.1) (map-Value Value Tested tested x) y ≡ same_open x y
-layers (layer.Array xs) (layer.Array ys) = each-tested xs ys
-layers (layer.Hash ps) (layer.Hash qs) =
+same_layer-tested (layer.Array xs) (layer.Array ys) = each-tested xs ys
+same_layer-tested (layer.Hash ps) (layer.Hash qs) =
     ap (λ n. nat_eq n (length qs) && same_counts test_pair (map tested_pair ps) (map value_pair (map tested_pair ps))
     qs)
     (length-tested ps)
     ∙ ap (λ l. nat_eq (length ps) (length qs) && same_counts test_pair (map tested_pair ps) l qs) (pairs-tested ps)
     ∙ ap (λ b. nat_eq (length ps) (length qs) && b) (counts-tested ps ps qs)
-layers (layer.Object p xs) (layer.Object q ys) = ap (λ b. same_each bytes_eq p q && b) (each-tested_pair xs ys)
-layers layer.Nil layer.Nil = refl
-layers layer.True layer.True = refl
-layers layer.False layer.False = refl
-layers (layer.Int m) (layer.Int n) = refl
-layers (layer.Str m) (layer.Str n) = refl
-layers (layer.Sym m) (layer.Sym n) = refl
-layers (layer.Module m) (layer.Module n) = refl
-layers _ _ = refl
+same_layer-tested (layer.Object p xs) (layer.Object q ys) =
+    ap (λ b. same_each bytes_eq p q && b) (each-tested_pair xs ys)
+same_layer-tested layer.Nil layer.Nil = refl
+same_layer-tested layer.True layer.True = refl
+same_layer-tested layer.False layer.False = refl
+same_layer-tested (layer.Int m) (layer.Int n) = refl
+same_layer-tested (layer.Str m) (layer.Str n) = refl
+same_layer-tested (layer.Sym m) (layer.Sym n) = refl
+same_layer-tested (layer.Module m) (layer.Module n) = refl
+same_layer-tested _ _ = refl
 
 -- values are the same by one level of both
 pub same_is : (a b : Value) → same a b ≡ same_open (out-Value a) (out-Value b)
@@ -87,7 +89,7 @@ same_is a b =
     ap (λ x. same x b) (sym (roll-out-Value a))
     ∙ ap (λ f. f b)
     (para-roll-Value (Value → Bool) (λ x w. same_layer (λ c. c.0) (λ c. c.1) x (out-Value w)) (out-Value a))
-    ∙ layers (out-Value a) (out-Value b)
+    ∙ same_layer-tested (out-Value a) (out-Value b)
 
 -- ---- by the variants of both
 
@@ -174,9 +176,31 @@ counts_of_one test (p ∷ ps) pairs =
     ap (λ b. b && same_counts test ps pairs pairs) (eq-eqb (count_by (test p) pairs) _ refl)
     ∙ counts_of_one test ps pairs
 
--- hashes of the same pairs in one order are the same
-pub same_in_order : (ps qs : List (Value × Value)) → ps ≡ qs →
-    true ≡ (nat_eq (length ps) (length qs) && same_counts same_both ps ps qs)
-same_in_order ps qs e =
-    sym (ap (λ b. b && same_counts same_both ps ps qs) (eq-eqb (length ps) (length qs) (ap length e))
-    ∙ ap (λ l. same_counts same_both ps ps l) (sym e) ∙ counts_of_one same_both ps ps)
+-- a list has its own pairs as often as itself
+pub same_list_counts : (ps qs : List (Value × Value)) → ps ≡ qs → true ≡ same_counts same_both ps ps qs
+same_list_counts ps qs e =
+    sym (ap (λ l. same_counts same_both ps ps l) (sym e) ∙ counts_of_one same_both ps ps)
+
+-- ---- one pair that stands in two lists unequally often
+
+unequal_count : (test : Value × Value → Value × Value → Bool) (ps own other : List (Value × Value)) (i : ℕ)
+    (p : Value × Value) → i < length ps → p ≡ get_or ps i p →
+    (count_by (test p) own ≡ count_by (test p) other → ⊥) → false ≡ same_counts test ps own other
+unequal_count test [] own other i p h at ne = absurd (omega arith)
+unequal_count test (q ∷ ps) own other zero p h at ne =
+    let e : nat_eq (count_by (test q) own) (count_by (test q) other) ≡ false =
+    subst (λ r. nat_eq (count_by (test r) own) (count_by (test r) other) ≡ false) at (eqb_of_ne _ _ ne) in
+    ap (λ b. b && same_counts test ps own other) (sym e)
+unequal_count test (q ∷ ps) own other (suc i) p h at ne =
+    sym (ap (λ b. nat_eq (count_by (test q) own) (count_by (test q) other) && b)
+    (sym (unequal_count test ps own other i p (omega arith) at ne))
+    ∙ and-false (nat_eq (count_by (test q) own) (count_by (test q) other)))
+
+-- decides that not each pair does
+pub counts_are_unequal : (ps xs other : List (Value × Value)) (i : ℕ) (p : Value × Value) (m n : ℕ) → xs ≡ ps →
+    i < length xs → p ≡ get_or xs i p → m ≡ count_by (same_both p) ps → n ≡ count_by (same_both p) other →
+    (m ≡ n → ⊥) → nat_eq m n ≡ same_counts same_both ps ps other
+counts_are_unequal ps xs other i p m n same_list below at in_own in_other ne =
+    eqb_of_ne m n ne
+    ∙ unequal_count same_both ps ps other i p (rw (← same_list) below) (at ∙ ap (λ l. get_or l i p) same_list)
+    (λ q. ne (in_own ∙ q ∙ sym in_other))

@@ -1,3 +1,4 @@
+pub mod Pairing
 pub mod Paths
 pub mod Same
 pub mod Size

@@ -4,11 +4,15 @@ ghost use Rattle.std.specs.Str.{bytes_eq};
 ghost use Rattle.ruby_types.specs.Same.{same, same_both, same_each, same_counts};
 
 use crate::identical::identical_pairs;
+use crate::pairing::without_partner;
 use crate::value::{CPath, Items, Pairs, Value};
 
-/// Hashes of more pairs are read once in order before their pairs are counted. Smaller ones aren't, so that hashes that
-/// are nested deep aren't read again at each level.
+/// Hashes of more pairs are read in order and by a table before their pairs are counted. Smaller ones aren't, so that
+/// hashes that are nested deep aren't read again at each level.
 const FEW_PAIRS: usize = 256;
+
+/// Hashes of more pairs are counted where their orders differ, since the table has no room for them.
+const MANY_PAIRS: usize = 65_535;
 
 /// The same value by structure, where a Hash has the same pairs, each as often, in any order. It takes no memory.
 #[cycle(equal)]
@@ -110,10 +114,30 @@ fn equal_hashes(a: &Pairs, b: &Pairs) -> bool
     if a.len() != b.len() {
         return false;
     }
-    if a.len() > FEW_PAIRS && identical_pairs(a, b) {
+    if a.len() > FEW_PAIRS {
+        equal_large(a, b)
+    } else {
+        equal_counts(a, b)
+    }
+}
+
+/// Looks for the same pairs in one order, and then for a partner of each pair. All pairs are counted only where a pair
+/// has no partner though it stands in both as often.
+#[cycle(equal)]
+fn equal_large(a: &Pairs, b: &Pairs) -> bool
+    requires { length a.now ≡ length b.now }
+    ensures { result ≡ same_counts same_both a.now a.now b.now }
+{
+    if identical_pairs(a, b) {
         return true;
     }
-    equal_counts(a, b)
+    match without_partner::<MANY_PAIRS>(a.as_slice(), b.as_slice()) {
+        None => true,
+        Some(place) => {
+            let p = &a.as_slice()[place];
+            count(p, a) == count(p, b) && equal_counts(a, b)
+        }
+    }
 }
 
 #[cycle(equal)]
@@ -157,27 +181,42 @@ mod tests {
     use std::test::Fail;
     use std::time::{Duration, Instant};
 
-    fn numbered(alloc: Global, count: u32) -> Result<Value, AllocError> {
-        let mut pairs = Pairs::new(alloc);
-        for number in 0..count {
-            let number = i64::from(number);
+    const COUNT: u32 = 50_000;
+
+    /// The pairs of the numbers below `COUNT`, each of which stands where its product with a step stands modulo it.
+    fn numbered(alloc: Global, step: u64) -> Result<Vec<(Value, Value)>, AllocError> {
+        let mut pairs = Vec::new(alloc);
+        for place in 0..COUNT {
+            let number = (u64::from(place).wrapping_mul(step) % u64::from(COUNT)) as i64;
             pairs.push((Value::Int(number), Value::Int(number)))?;
         }
-        Ok(Value::Hash(pairs))
+        Ok(pairs)
+    }
+
+    fn hash(alloc: Global, pairs: Vec<(Value, Value)>) -> Result<Value, AllocError> {
+        Ok(Value::Hash(Pairs::from_vec(alloc, pairs)?))
     }
 
     #[test]
-    fn hashes_of_fifty_thousand_pairs_in_one_order_are_compared_at_once(
+    fn hashes_of_fifty_thousand_pairs_in_any_order_are_compared_at_once(
         rt: HostRuntime,
     ) -> Result<(), Fail> {
-        let first = numbered(rt.alloc(), 50_000)?;
-        let second = numbered(rt.alloc(), 50_000)?;
+        let alloc = rt.alloc();
+        let first = hash(alloc, numbered(alloc, 1)?)?;
+        let alike = hash(alloc, numbered(alloc, 1)?)?;
+        let reversed = hash(alloc, numbered(alloc, 49_999)?)?;
+        let mixed = hash(alloc, numbered(alloc, 7_919)?)?;
+        let mut pairs = numbered(alloc, 7_919)?;
+        pairs.pop();
+        pairs.push((Value::Int(-1), Value::Nil))?;
+        let other = hash(alloc, pairs)?;
         let start = Instant::now(&rt)?;
-        assert!(rt; equal(&first, &second));
-        assert!(rt;
-            start.elapsed(&rt)? < Duration::from_millis(100),
-            "one pass"
-        );
+        assert!(rt; equal(&first, &alike));
+        assert!(rt; equal(&first, &reversed));
+        assert!(rt; equal(&first, &mixed));
+        assert!(rt; !equal(&first, &other));
+        let taken = start.elapsed(&rt)?;
+        assert!(rt; taken < Duration::from_secs(1), "{taken:?}");
         Ok(())
     }
 }

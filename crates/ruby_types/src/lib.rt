@@ -7,6 +7,7 @@
 mod compare;
 mod copies;
 mod identical;
+mod pairing;
 mod request;
 mod sizes;
 mod tree;

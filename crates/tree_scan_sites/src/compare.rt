@@ -6,7 +6,7 @@ use lists::Text;
 use std::cmp::Ordering;
 
 /// The order of constant paths: the first name that differs decides, by its bytes, else the shorter path comes first.
-pub(crate) fn compare_paths(path: &[Text], other: &[Text]) -> Ordering
+pub fn compare_paths(path: &[Text], other: &[Text]) -> Ordering
     ensures { result ≡ path_order path.now other.now }
 {
     let mut left = path;

@@ -34,5 +34,6 @@ mod shadows;
 mod spelled;
 mod table;
 
+pub use compare::compare_paths;
 pub use spelled::{Names, Site, SiteRow, Spelled};
 pub use table::SiteTable;

@@ -1,7 +1,6 @@
-use Rattle.std.proofs.Common.{◌≡◌, ◌∙◌, ℕ, ◌+◌, ◌++◌, ◌∷◌, [], Some, slice_get, take, suc, length, refl, ap, subst}
-use Rattle.std.proofs.Common.{sym, add-one, zero-add}
+use Rattle.std.proofs.Common.{◌≡◌, ◌∙◌, Some, slice_get, length, refl}
+use Rattle.std.proofs.Common.{add-one, zero-add}
 use Rattle.std.proofs.lemmas.Option.{slice_get_read}
-use Rattle.program_constants.specs.Constants.{numbered, numbered_from}
 use Rattle.program_constants.proofs.ListLaws.{numbered_more}
 use Rattle.program_constants.proofs.table.numbered.Goals as goal
 

@@ -1,7 +1,12 @@
-use Rattle.ruby_builtin_base.proofs.RowLaws.{place_is_row}
+use Rattle.std.proofs.Common.{refl}
+use Rattle.ruby_builtin_base.proofs.RowLaws.{place_is_row, rows_are_rising}
+use Rattle.ruby_builtin_base.specs.Rows.{numbered}
 use Rattle.ruby_builtin_common.specs.CommonRows.{value_rows}
 use Rattle.ruby_builtin_common.proofs.value_rows.place.Goals as goal
 
+pub find_in-requires : goal.find_in-requires
+find_in-requires c = rows_are_rising (numbered 0 value_rows) refl
+
 pub returns : goal.returns
-returns c = place_is_row value_rows c.value_table.result c.args.name.now c.find.result c.value_table.ensures.rows
-    c.value_table.ensures.rising c.find.ensures.found c.find.ensures.none
+returns c = place_is_row value_rows c.args.name.now c.find_in.result (rows_are_rising (numbered 0 value_rows) refl)
+    c.find_in.ensures.found c.find_in.ensures.none

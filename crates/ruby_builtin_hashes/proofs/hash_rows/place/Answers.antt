@@ -1,7 +1,12 @@
-use Rattle.ruby_builtin_base.proofs.RowLaws.{place_is_row}
+use Rattle.std.proofs.Common.{refl}
+use Rattle.ruby_builtin_base.proofs.RowLaws.{place_is_row, rows_are_rising}
+use Rattle.ruby_builtin_base.specs.Rows.{numbered}
 use Rattle.ruby_builtin_hashes.specs.HashRows.{hash_rows}
 use Rattle.ruby_builtin_hashes.proofs.hash_rows.place.Goals as goal
 
+pub find_in-requires : goal.find_in-requires
+find_in-requires c = rows_are_rising (numbered 0 hash_rows) refl
+
 pub returns : goal.returns
-returns c = place_is_row hash_rows c.hash_table.result c.args.name.now c.find.result c.hash_table.ensures.rows
-    c.hash_table.ensures.rising c.find.ensures.found c.find.ensures.none
+returns c = place_is_row hash_rows c.args.name.now c.find_in.result (rows_are_rising (numbered 0 hash_rows) refl)
+    c.find_in.ensures.found c.find_in.ensures.none

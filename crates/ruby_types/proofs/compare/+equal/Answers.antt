@@ -1,7 +1,8 @@
 use Rattle.std.proofs.Common.{◌∙◌, sym, arith, rules, tests}
 use Rattle.ruby_types.specs.Same.{same_both}
 use Rattle.ruby_types.proofs.SameLaws.{same-Int, same-Str, same-Sym, same-Array, same-Hash, same-Module, same-Object}
-use Rattle.ruby_types.proofs.SameLaws.{counts_differ, counts_go_on, same_in_order}
+use Rattle.ruby_types.proofs.SameLaws.{counts_differ, counts_go_on, same_list_counts, counts_are_unequal}
+use Rattle.ruby_types.proofs.PairingLaws.{same_sums_decide}
 use Rattle.ruby_types.proofs.compare.+equal.Goals as goal
 
 pub equal-returns-in-Int-b : goal.equal-returns-in-Int-b
@@ -40,6 +41,16 @@ equal_counts-counts-preserved t c =
     counts_go_on same_both _ _ _ _ _ c.p-item.result _ _ _ c.as_slice-p-items.ensures c.counts-test.true c.p-item.is
     c.counts.invariant c.count.ensures c.count-in-counts.ensures c.if-count.false
 
-pub equal_hashes-returns-then-identical_pairs : goal.equal_hashes-returns-then-identical_pairs
-equal_hashes-returns-then-identical_pairs t c =
-    same_in_order c.args.a.now c.args.b.now (c.identical_pairs.ensures (search (rules, tests)))
+pub equal_large-returns-then-identical_pairs : goal.equal_large-returns-then-identical_pairs
+equal_large-returns-then-identical_pairs t c =
+    same_list_counts c.args.a.now c.args.b.now (c.identical_pairs.ensures (search (rules, tests)))
+
+pub equal_large-returns-in-None : goal.equal_large-returns-in-None
+equal_large-returns-in-None t c =
+    same_sums_decide c.args.a.now c.args.b.now _ _ c.as_slice.ensures c.as_slice-2.ensures c.in-None.ensures
+
+pub equal_large-returns-else-count : goal.equal_large-returns-else-count
+equal_large-returns-else-count t c =
+    counts_are_unequal c.args.a.now _ c.args.b.now c.in-Some.place c.index-as_slice-place.result _ _
+    c.as_slice-in-Some.ensures (rw (c.as_slice-in-Some.ensures ∙ sym c.as_slice.ensures) c.in-Some.ensures)
+    c.index-as_slice-place.is c.count.ensures c.count-in-Some.ensures c.if-count.false

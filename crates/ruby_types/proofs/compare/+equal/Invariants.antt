@@ -30,10 +30,13 @@ abbrev pub decreases-equal_hashes : goal.decreases-equal_hashes
 decreases-equal_hashes l = 8 * weight-Value-Hash-0 l.a.now + 7
 
 abbrev pub decreases-equal_counts : goal.decreases-equal_counts
-decreases-equal_counts l = 8 * weight-Value-Hash-0 l.a.now + 6
+decreases-equal_counts l = 8 * weight-Value-Hash-0 l.a.now + 5
 
 abbrev pub decreases-count : goal.decreases-count
 decreases-count l = 8 * max (size-Value l.p.now.0) (size-Value l.p.now.1) + 2
 
 abbrev pub decreases-equal_both : goal.decreases-equal_both
 decreases-equal_both l = 8 * max (size-Value l.p.now.0) (size-Value l.p.now.1) + 1
+
+abbrev pub decreases-equal_large : goal.decreases-equal_large
+decreases-equal_large l = 8 * weight-Value-Hash-0 l.a.now + 6

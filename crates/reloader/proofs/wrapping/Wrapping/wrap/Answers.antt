@@ -1,5 +1,4 @@
-use Rattle.std.proofs.Common.{rules, ◌≡◌, ◌<◌, ◌∙◌, ap, subst, sym, ◌+◌, ◌-◌, ℕ, arith}
-use Rattle.std.specs.Fn.{FnOnceReturnsAtMut}
+use Rattle.std.proofs.Common.{rules, ap, arith}
 use Rattle.reloader.proofs.wrapping.Wrapping.wrap.Goals as goal
 
 pub end_wrap-requires : goal.end_wrap-requires

@@ -1,4 +1,4 @@
-use Rattle.std.proofs.Common.{◌≡◌, ◌+◌, ◌∷◌, [], length, refl, sym, ap, ◌∙◌, arith}
+use Rattle.std.proofs.Common.{[], length, sym, ap, ◌∙◌, arith}
 use Rattle.ruby_nodes.proofs.Lookup.{BelowAll_push, length_entries_from}
 use Rattle.ruby_nodes.proofs.Standing.{Extends_pushed, Stands_pushed}
 use Rattle.ruby_nodes.proofs.table.NodeTable.push.Goals as goal

@@ -1,8 +1,0 @@
-use Rattle.std.proofs.Common.{refl}
-use Rattle.ruby_builtin_base.proofs.RowLaws.{rising_rows_make_a_table}
-use Rattle.ruby_builtin_base.specs.Rows.{numbered}
-use Rattle.ruby_builtin_arrays.specs.ArrayRows.{array_rows}
-use Rattle.ruby_builtin_arrays.proofs.array_rows.array_table.Goals as goal
-
-pub unreachable-requires : goal.unreachable-requires
-unreachable-requires c = rising_rows_make_a_table (numbered 0 array_rows) c.in-Err.field-0 refl c.in-Err.ensures.fault

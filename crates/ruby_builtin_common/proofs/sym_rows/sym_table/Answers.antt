@@ -1,8 +1,0 @@
-use Rattle.std.proofs.Common.{refl}
-use Rattle.ruby_builtin_base.proofs.RowLaws.{rising_rows_make_a_table}
-use Rattle.ruby_builtin_base.specs.Rows.{numbered}
-use Rattle.ruby_builtin_common.specs.CommonRows.{sym_rows}
-use Rattle.ruby_builtin_common.proofs.sym_rows.sym_table.Goals as goal
-
-pub unreachable-requires : goal.unreachable-requires
-unreachable-requires c = rising_rows_make_a_table (numbered 0 sym_rows) c.in-Err.field-0 refl c.in-Err.ensures.fault

@@ -1,0 +1,4 @@
+pub mod KeyLaws
+pub mod SameTasks
+pub mod TaskOrder
+pub mod Texts
