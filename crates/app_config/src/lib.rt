@@ -22,7 +22,7 @@ pub use config::{
     LoadLines, Patterns, RootLine, RootLines, TextPairs,
 };
 pub use inflections::Inflections;
-pub use paths::is_constant;
+pub use paths::{is_constant, is_tree_path};
 pub use pattern_index::PatternIndex;
 pub use patterns::names;
 pub use reading::read;

@@ -70,7 +70,7 @@ fn is_top(segment: &[u8]) -> bool
 
 /// A path or a pattern below `app/` or `lib/`, with no empty, `.` or `..` segment.
 #[tactic(auto, using(crate::proofs::PathLaws::is_tree_path_cut))]
-pub(crate) fn is_tree_path(path: &[u8]) -> bool
+pub fn is_tree_path(path: &[u8]) -> bool
     ensures { result ≡ spec.is_tree_path path.now }
 {
     let (top, behind) = cut_at(path, b'/');

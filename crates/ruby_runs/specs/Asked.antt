@@ -1,5 +1,4 @@
 -- What a run may ask for, and how it may end.
-use Rattle.std.specs.Prelude.{List}
 use Rattle.by_need.specs.Asking as asking
 use Rattle.by_need.specs.Asking.{Gives, Ask, Ending}
 use Rattle.ruby_types.specs.declared.value.Value.{Value}
@@ -31,3 +30,10 @@ MayLack may (task.File file) = Unit {0}
 MayLack may (task.Const path) = Unit {0}
 MayLack may (task.Ancestors path) = Unit {0}
 MayLack may (task.Request request) = may.other
+
+-- A task that is a request.
+abbrev pub IsRequest : Task → Type 0
+IsRequest (task.File file) = ⊥
+IsRequest (task.Const path) = ⊥
+IsRequest (task.Ancestors path) = ⊥
+IsRequest (task.Request request) = Unit {0}

@@ -1,7 +1,7 @@
 -- What expressions, statements and calls do (the Ruby documentation of literals, control expressions, methods, calling
 -- methods, and modules and classes).
-use Rattle.std.specs.Prelude.{ℕ, zero, suc, Bool, true, false, ◌&&◌, ◌||◌, not, ◌==◌, if◌then◌else◌, List, [], ◌∷◌, ◌++◌}
-use Rattle.std.specs.Prelude.{length, map, drop, Option, Some, None, bytes_eq, codes, find}
+use Rattle.std.specs.Prelude.{ℕ, zero, suc, Bool, true, false, ◌&&◌, ◌||◌, not, ◌==◌, if◌then◌else◌, List, [], ◌∷◌}
+use Rattle.std.specs.Prelude.{◌++◌, length, map, drop, Option, Some, None, bytes_eq, codes, find}
 use Rattle.std.specs.Fmt.{decimal}
 use Rattle.ruby_types.specs.declared.tree.Expr.{Expr, fold-Expr}
 use Rattle.ruby_types.specs.declared.tree.Expr.TheOpen.{Expr-F, Part-F}

@@ -13,7 +13,8 @@ use Rattle.program_places.specs.Paths.{Name}
 use Rattle.ruby_runs.specs.Doing.{Doing, Here, pure, ◌>>◌, raise, fail, error_at, spent, pay}
 
 -- The built-in methods: what a call of one answers, by the turns left, the receiver, the name and the arguments; and
--- how values are printed. What runs do is defined for any: `built_in_called` of `ruby_builtin` is the table of the profile.
+-- how values are printed. What runs do is defined for any table of them; the profile's is `built_in_called` of
+-- `ruby_builtin`.
 pub record BuiltIns : Type 0 where
   pub called : ℕ → Value → Name → List Value → Called
   pub to_s : Value → List ℕ

@@ -181,9 +181,10 @@ module _ (index : Index) (rows : BuiltIns) where
   first_name here in_code true name = at_top here (name ∷ []) name
   first_name here in_code false name = bare here in_code name
 
-  -- All segments, one after another: each is resolved and then referred to.
+  -- All segments, one after another: each is resolved and then referred to. (No text spells a name without segments.)
   abbrev pub whole_name : Here → Bool → (top : Bool) → List Name → Doing Found
-  whole_name here in_code top [] = pure (record { path = []; value = Nil; assigned = false })
+  whole_name here in_code top [] =
+      segment_turn here in_code >> pure (record { path = []; value = Nil; assigned = false })
   whole_name here in_code top (name ∷ names) = do
     segment_turn here in_code
     path ← first_name here in_code top name

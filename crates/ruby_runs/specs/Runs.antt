@@ -1,7 +1,8 @@
 -- What the run of a task or a request does. A file's task loads the file, a constant's gives its value, the ancestors'
 -- the modules in which a class or module looks methods up, and a request's the answer of its action (the Ruby
 -- documentation of Module#ancestors; the README of Zeitwerk on autoloading; the Rails guide on controllers).
-use Rattle.std.specs.Prelude.{ℕ, Bool, true, false, ◌||◌, if◌then◌else◌, List, [], ◌∷◌, ◌++◌, map, Option, Some, None, codes}
+use Rattle.std.specs.Prelude.{ℕ, Bool, false, ◌||◌, if◌then◌else◌, List, [], ◌∷◌, ◌++◌, map}
+use Rattle.std.specs.Prelude.{Option, Some, None, codes}
 use Rattle.std.specs.List.{list_any}
 use Rattle.by_need.specs.Asking.{Gives, Value, Other}
 use Rattle.ruby_types.specs.declared.value.Value as value

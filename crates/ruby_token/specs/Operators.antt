@@ -1,5 +1,5 @@
 -- The operators and marks, the longer ones first.
-use Rattle.std.specs.Prelude.{ℕ, Bool, true, false, List, [], ◌∷◌, codes}
+use Rattle.std.specs.Prelude.{ℕ, List, [], ◌∷◌, codes}
 use Rattle.ruby_token.specs.declared.token.Op.{Op}
 use Rattle.ruby_token.specs.declared.token.Op.TheVariants as op
 
@@ -26,29 +26,3 @@ operators =
     ∷ (codes "<", op.Less) ∷ (codes ">", op.More) ∷ (codes "!", op.Not) ∷ (codes "?", op.Ask) ∷
     (codes ":", op.Colon) ∷ (codes "|", op.Bar)
     ∷ (codes "&", op.BitAnd) ∷ (codes "^", op.BitXor) ∷ (codes "~", op.BitNot) ∷ (codes "$", op.GlobalVariable) ∷ []
-
--- an operator of Ruby that this profile leaves out
-abbrev pub is_left_out : Op → Bool
-is_left_out op.Compare = true
-is_left_out op.Power = true
-is_left_out op.Matches = true
-is_left_out op.MatchesNot = true
-is_left_out op.SafeDot = true
-is_left_out op.Range = true
-is_left_out op.OpenRange = true
-is_left_out op.ShiftLeft = true
-is_left_out op.ShiftRight = true
-is_left_out op.PlusAssign = true
-is_left_out op.MinusAssign = true
-is_left_out op.TimesAssign = true
-is_left_out op.DivideAssign = true
-is_left_out op.OrAssign = true
-is_left_out op.AndAssign = true
-is_left_out op.Lambda = true
-is_left_out op.CaseSame = true
-is_left_out op.BitAnd = true
-is_left_out op.BitXor = true
-is_left_out op.BitNot = true
-is_left_out op.ClassVariable = true
-is_left_out op.GlobalVariable = true
-is_left_out _ = false

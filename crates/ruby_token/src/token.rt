@@ -1,8 +1,5 @@
 //! Tokens and their kinds.
 
-ghost use Rattle.std.specs.Prelude.{◌≡◌};
-ghost use Rattle.ruby_token.specs.Operators.{is_left_out};
-
 use lists::{Copying, Listed};
 use std::alloc::AllocError;
 
@@ -109,39 +106,6 @@ pub enum Op {
     ClassVariable,
     /// `$`
     GlobalVariable,
-}
-
-impl Op {
-    /// Whether it is an operator of Ruby that this profile leaves out.
-    pub fn is_left_out(self) -> bool
-        ensures { result ≡ is_left_out self }
-    {
-        match self {
-            Op::Compare
-            | Op::Power
-            | Op::Matches
-            | Op::MatchesNot
-            | Op::SafeDot
-            | Op::Range
-            | Op::OpenRange
-            | Op::ShiftLeft
-            | Op::ShiftRight
-            | Op::PlusAssign
-            | Op::MinusAssign
-            | Op::TimesAssign
-            | Op::DivideAssign
-            | Op::OrAssign
-            | Op::AndAssign
-            | Op::Lambda
-            | Op::CaseSame
-            | Op::BitAnd
-            | Op::BitXor
-            | Op::BitNot
-            | Op::ClassVariable
-            | Op::GlobalVariable => true,
-            _ => false,
-        }
-    }
 }
 
 /// What a token is. Reserved words are names here.

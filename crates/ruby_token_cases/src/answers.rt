@@ -1,7 +1,7 @@
 //! What is wanted of a case and what `ruby_token` gives.
 
 use crate::written::{Written, bytes_of};
-use ruby_token::{LexFault, Lexed, Token, TokenKind, lex, tokens};
+use ruby_token::{LexFault, Lexed, Token, lex, tokens};
 use std::alloc::{AllocError, Global};
 
 /// How a token is shown.
@@ -11,20 +11,11 @@ enum Shown {
     Text,
     /// Its kind and its place.
     Place,
-    /// Its text, where it's an operator that the profile leaves out.
-    LeftOut,
 }
 
 /// Whether a word begins the second line of a case.
 pub fn is_sign(word: &str) -> bool {
     matches!(word, "=" | "!")
-}
-
-fn is_left_out(token: &Token) -> bool {
-    match token.kind {
-        TokenKind::Op(op) => op.is_left_out(),
-        _ => false,
-    }
 }
 
 /// The token's bytes; none, where it has no place in them.
@@ -64,11 +55,6 @@ fn put_token(
             let place = format!(in alloc; "{:?} {}..{}", token.kind, token.from, token.to)?;
             cut.extend_from_slice(place.as_bytes())
         }
-        Shown::LeftOut if is_left_out(token) => {
-            put_space(cut)?;
-            cut.extend_from_slice(text_of(bytes, token))
-        }
-        Shown::LeftOut => Ok(()),
     }
 }
 
@@ -126,7 +112,6 @@ pub fn found(alloc: Global, kind: &str, bytes: &[u8]) -> Result<Option<Vec<u8>>,
         "tokens" => Ok(Some(all_or_fault(alloc, Shown::Text, bytes)?)),
         "lex" => Ok(Some(with_fault(alloc, bytes)?)),
         "spans" => Ok(Some(all_or_fault(alloc, Shown::Place, bytes)?)),
-        "left out" => Ok(Some(all_or_fault(alloc, Shown::LeftOut, bytes)?)),
         _ => Ok(None),
     }
 }

@@ -9,7 +9,6 @@
 //! | `tokens` | `=` each token's kind, and its text between backquotes; `!` the fault's kind |
 //! | `lex` | the same, and before a fault's kind the tokens before it |
 //! | `spans` | `=` each token's kind and place |
-//! | `left out` | `=` the operators that the profile leaves out |
 //!
 //! `written` says how bytes and the mark are spelled.
 #![tactic(auto)]
