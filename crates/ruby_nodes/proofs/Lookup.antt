@@ -40,7 +40,7 @@ entry_of_append_left known rest n b = at n b
     at (node.Ivar name) b = refl
     at (node.Const constant) b = refl
     at (node.Array x) b = rw (keeps x b) refl
-    at (node.Hash x count) b = rw (keeps x b) refl
+    at (node.Hash x) b = rw (keeps x b) refl
     at (node.OwnCall name x) b = rw (keeps x b) refl
     at (node.Call x name y) b = rw (keeps x b.0, keeps y b.1) refl
     at (node.Not x) b = rw (keeps x b) refl
@@ -100,3 +100,10 @@ pub BelowAll_push : (k : ℕ) (ns : List Node) (n : Node) (all : ℕ) → all �
     Below all n → BelowAll k (ns ++ n ∷ [])
 BelowAll_push k [] n all is b h = (subst (λ i. Below i n) (omega (arith, is)) h, tt)
 BelowAll_push k (x ∷ ns) n all is b h = (b.0, BelowAll_push (suc k) ns n all (omega (arith, is)) b.1 h)
+
+-- the children of a node have numbers below its own
+pub BelowAll_at : (k : ℕ) (ns : List Node) (i j : ℕ) (d : Node) → i < length ns → j ≡ k + i → BelowAll k ns →
+    Below j (get_or ns i d)
+BelowAll_at k [] i j d lt is b = absurd (omega arith)
+BelowAll_at k (n ∷ more) zero j d lt is b = subst (λ a. Below a n) (omega (arith, is)) b.0
+BelowAll_at k (n ∷ more) (suc i) j d lt is b = BelowAll_at (suc k) more i j d (omega (arith, lt)) (omega (arith, is)) b.1

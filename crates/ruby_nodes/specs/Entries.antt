@@ -63,7 +63,7 @@ entry_of known (node.Local name) = an_expr (expr.Local name)
 entry_of known (node.Ivar name) = an_expr (expr.Ivar name)
 entry_of known (node.Const constant) = an_expr (expr.Const constant)
 entry_of known (node.Array first) = an_expr (expr.Array (entry_at known first).items)
-entry_of known (node.Hash first count) = an_expr (expr.Hash (entry_at known first).pairs)
+entry_of known (node.Hash first) = an_expr (expr.Hash (entry_at known first).pairs)
 entry_of known (node.OwnCall name first) = an_expr (expr.Call None name (entry_at known first).items)
 entry_of known (node.Call on name first) =
     an_expr (expr.Call (Some (entry_at known on).expr) name (entry_at known first).items)
@@ -105,7 +105,7 @@ entries = entries_from []
 abbrev pub Below : ℕ → Node → Type 0
 Below k (node.Str first) = first < k
 Below k (node.Array first) = first < k
-Below k (node.Hash first count) = first < k
+Below k (node.Hash first) = first < k
 Below k (node.OwnCall name first) = first < k
 Below k (node.Call on name first) = (on < k) × (first < k)
 Below k (node.Not a) = a < k

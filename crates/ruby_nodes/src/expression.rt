@@ -42,7 +42,7 @@ pub fn push_expr(table: &mut NodeTable, expr: &Expr) -> Result<u32, AllocError>
         }
         Expr::Hash(pairs) => {
             let first = push_pairs(table, pairs.as_slice())?;
-            table.push(Node::Hash(first, pairs.len()))
+            table.push(Node::Hash(first))
         }
         Expr::Call {
             on: None,

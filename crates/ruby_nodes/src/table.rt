@@ -1,4 +1,4 @@
-ghost use Rattle.std.specs.Prelude.{◌≡◌, [], ◌∷◌, ◌++◌, length, MatchOption, IfOk, OnErr};
+ghost use Rattle.std.specs.Prelude.{◌≡◌, [], ◌∷◌, ◌++◌, length, MatchOption, IfOk, IfSome, OnErr};
 ghost use Rattle.ruby_nodes.specs.Entries.{Below, Extends, Stands, entry_at, entry_of, no_entry};
 
 use ruby_types::{ConstRef, Text};
@@ -21,8 +21,8 @@ pub enum Node {
     Const(ConstRef),
     /// An array, by the first of its items.
     Array(u32),
-    /// A hash, by the first of its pairs, and how many they are.
-    Hash(u32, usize),
+    /// A hash, by the first of its pairs.
+    Hash(u32),
     /// A call on self: its name, and the first of its arguments.
     OwnCall(Text, u32),
     /// A call on a receiver: this, its name, and the first of its arguments.
@@ -105,9 +105,10 @@ impl NodeTable {
         Ok(at)
     }
 
-    /// The node of this number, if there is one.
+    /// The node of this number, if there is one. Its children have lower numbers.
     pub fn node(&self, at: u32) -> Option<&Node>
-        ensures { MatchOption result (entry_at self.now at ≡ no_entry)
+        ensures children { IfSome result (λ node. Below at node.now) }
+        ensures stands { MatchOption result (entry_at self.now at ≡ no_entry)
             (λ node. entry_at self.now at ≡ entry_of self.now node.now) }
     {
         let at = at as usize;
