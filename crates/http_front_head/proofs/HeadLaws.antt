@@ -35,7 +35,8 @@ begun_grows w c h x = (x.0 ++ c, ReadsRequest-append w h x.0 c x.1, x.2)
 
 begun_stays : (b c : List ℕ) (h : RequestHead) → BeginsHead (window b) h → BeginsHead (window (b ++ c)) h
 begun_stays b c h x =
-    subst (λ (w : List ℕ). BeginsHead w h) (sym (window_append b c)) (begun_grows (window b) (take (16384 - length b) c) h x)
+    subst (λ (w : List ℕ). BeginsHead w h) (sym (window_append b c))
+    (begun_grows (window b) (take (16384 - length b) c) h x)
 
 -- ---- what stays
 
@@ -167,7 +168,8 @@ nothing_is_more = (
   record {
     none = λ h rest x. let some = head_has_bytes h in
         absurd (omega (arith, ap length x.1, length-append (print_request h) rest, some));
-    may = request_may (Completes_first (line_blank (record { more = []; tree = []; reads = λ rest. refl })) some_section);
+    may = request_may
+        (Completes_first (line_blank (record { more = []; tree = []; reads = λ rest. refl })) some_section);
     few = λ x. let some = head_has_bytes x.3 in
         absurd (omega (
           arith,

@@ -76,7 +76,8 @@ version_feeds (suc (suc m)) t low = absurd (omega (arith, low))
 field_lines_end : (n : ℕ) (f : Field) (t : List ℕ) → IsField f
     → lines_end (suc n) (print_field f ++ t) ≡ length (print_field f) + lines_end n t
 field_lines_end n f t v =
-    let name = run_lines_end is_token_byte token_has_no_feed n f.name (58 ∷ (f.raw ++ (print_end f.end ++ t))) v.name.1 in
+    let behind = 58 ∷ (f.raw ++ (print_end f.end ++ t)) in
+    let name = run_lines_end is_token_byte token_has_no_feed n f.name behind v.name.1 in
     let raw = run_lines_end is_value_byte refl n f.raw (print_end f.end ++ t) v.raw in
     let end = end_lines_end n f.end t in
     let size = sizes f.name f.raw (print_end f.end) in
@@ -249,7 +250,8 @@ pub lines_end_fits : (n : ℕ) (t : List ℕ) → lines_end n t ≤ length t
 lines_end_fits zero t = omega arith
 lines_end_fits (suc n) [] = omega arith
 lines_end_fits (suc n) (b ∷ t) =
-    either_fits (lines_end n t) (lines_end (suc n) t) (length t) (b == 10) (lines_end_fits n t) (lines_end_fits (suc n) t)
+    either_fits (lines_end n t) (lines_end (suc n) t) (length t) (b == 10) (lines_end_fits n t)
+    (lines_end_fits (suc n) t)
 
 one_head_fits : (n b : ℕ) (t : List ℕ) (is : Bool) → head_end n t ≤ length t
     → (if is then suc (head_end n t) else lines_end n (b ∷ t)) ≤ suc (length t)
@@ -280,7 +282,8 @@ pub head_taken : (n : ℕ) (t : List ℕ) → suc n ≤ line_count t → suc n �
 head_taken n [] some = some
 head_taken n (b ∷ t) some = one_taken (is_newline b) refl some (head_taken n t)
   where
-    first_line : (size : ℕ) → is_newline b ≡ false → suc n ≤ feeds (take size (b ∷ t)) → suc n ≤ line_count (take size (b ∷ t))
+    first_line : (size : ℕ) → is_newline b ≡ false → suc n ≤ feeds (take size (b ∷ t))
+        → suc n ≤ line_count (take size (b ∷ t))
     first_line zero e many = many
     first_line (suc size) e many = rw e many
 
@@ -345,8 +348,14 @@ many_cut w more tail k valid many text lines =
 pub cut_exceeds : (w : List ℕ)
     → (c : RequestHead) × ReadsRequest (take (head_end 66 w) w ++ 10 ∷ []) c [] × (length c.fields ≡ 65)
     → RequestExceeds 64 w
-cut_exceeds w x =
-    (take (head_end 66 w) w, drop (head_end 66 w) w, sym (take-append-drop (head_end 66 w) w), x.0, x.1, omega (arith, x.2))
+cut_exceeds w x = (
+  take (head_end 66 w) w,
+  drop (head_end 66 w) w,
+  sym (take-append-drop (head_end 66 w) w),
+  x.0,
+  x.1,
+  omega (arith, x.2),
+)
 
 -- Too many header lines are many lines.
 pub exceeds_line_count : (w : List ℕ) → RequestExceeds 64 w → 66 ≤ line_count w
@@ -378,13 +387,24 @@ few_is_whole : (w more : List ℕ) (h : RequestHead) → ReadsRequest (w ++ more
     → 66 ≤ line_count w → ReadsRequest w h []
 few_is_whole w [] h x few lines = subst (λ (t : List ℕ). ReadsRequest t h []) (append-nil w) x
 few_is_whole w (m ∷ more) h x few lines =
-    let text : w ++ (m ∷ more) ≡ up_to_fields h ++ print_end h.last = x.1 ∙ append-nil (print_request h) ∙ print_parts h in
+    let text : w ++ (m ∷ more) ≡ up_to_fields h ++ print_end h.last =
+    x.1 ∙ append-nil (print_request h) ∙ print_parts h in
     let last = last_feed (up_to_fields h) h.last in
     let ends = ends_in_feed w last.0 m more (text ∙ last.1) in
     let all = front_line_count h x.0 (print_end h.last) in
     let one = end_feeds h.last [] in
     let both = line_count_append w (m ∷ more) (omega (arith, lines)) in
-    absurd (omega (arith, ap line_count text, all, ap feeds (append-nil (print_end h.last)), one, both, ends, few, lines))
+    absurd (omega (
+      arith,
+      ap line_count text,
+      all,
+      ap feeds (append-nil (print_end h.last)),
+      one,
+      both,
+      ends,
+      few,
+      lines,
+    ))
 
 target_line_count : (w : List ℕ) → EndsInTarget w → line_count w ≡ 0
 target_line_count w x =
@@ -442,7 +462,8 @@ lines_end_nil zero = refl
 lines_end_nil (suc n) = refl
 
 -- Behind an LF one line less is sought.
-pub lines_end_feed : (n k b : ℕ) (t : List ℕ) → (n ≡ 0 → ⊥) → b ≡ 10 → k ≡ n - 1 → lines_end n (b ∷ t) ≡ suc (lines_end k t)
+pub lines_end_feed : (n k b : ℕ) (t : List ℕ) → (n ≡ 0 → ⊥) → b ≡ 10 → k ≡ n - 1
+    → lines_end n (b ∷ t) ≡ suc (lines_end k t)
 lines_end_feed zero k b t some e less = absurd (some refl)
 lines_end_feed (suc n) k b t some e less = let same : k ≡ n = omega (arith, less) in rw (e, same) refl
 

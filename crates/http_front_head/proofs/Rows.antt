@@ -1,5 +1,6 @@
 -- What an answer to bytes says of them.
-use Rattle.std.proofs.Common.{◌≡◌, ◌⊎◌, ◌<◌, ◌≤◌, ℕ, List, ◌++◌, length, refl, sym, ap, ◌∙◌, subst, arith, inl, inr, take_all}
+use Rattle.std.proofs.Common.{◌≡◌, ◌⊎◌, ◌<◌, ◌≤◌, ℕ, List, ◌++◌, length, refl, sym, ap, ◌∙◌, subst, arith}
+use Rattle.std.proofs.Common.{inl, inr, take_all}
 use Rattle.http_front_head.specs.declared.parts.Head.{Head}
 use Rattle.http_front_head.specs.declared.parts.Head.TheVariants.{Whole, More, Bad, Long, Many, Memory}
 use Rattle.http_front_head.specs.declared.parts.HeadParts.{HeadParts}

@@ -58,7 +58,8 @@ nothing_repeated false false = refl
 
 -- What gives a length again.
 pub repeated_of : (s : Survey) (lines : List Line)
-    → (with_lines s lines).repeated ≡ (s.repeated || ((s.length && list_any is_length_line lines) || repeats_length lines))
+    → (with_lines s lines).repeated
+    ≡ (s.repeated || ((s.length && list_any is_length_line lines) || repeats_length lines))
 repeated_of s [] = nothing_repeated s.repeated s.length
 repeated_of s (l ∷ lines) =
     repeated_of (with_line s l) lines
@@ -92,7 +93,8 @@ unfolding judge
 judge_at w headers s h at =
     ap (λ (m : List ℕ). judged m h.target h.minor (map name_and_value h.fields)) (sym at.method)
     ∙ ap (λ (t : List ℕ). judged (span_bytes w s.method) t h.minor (map name_and_value h.fields)) (sym at.path)
-    ∙ ap (λ (v : ℕ). judged (span_bytes w s.method) (span_bytes w s.path) v (map name_and_value h.fields)) (sym at.version)
+    ∙ ap (λ (v : ℕ). judged (span_bytes w s.method) (span_bytes w s.path) v (map name_and_value h.fields))
+    (sym at.version)
     ∙ ap (judged (span_bytes w s.method) (span_bytes w s.path) s.version) (sym at.fields)
 
 -- A length at fault leaves nothing said.
@@ -115,7 +117,8 @@ fields_count f g n xs bs fits e =
 begun_at : (w : List ℕ) (headers : List HeaderSpan) (s : RequestSpans) (h : RequestHead)
     → IsRequestWithin w headers s → IsRequestAt w headers s h → length headers ≡ 64 → BeginsHead w h
 begun_at w headers s h within at room =
-    let count = fields_count (header_bytes w) name_and_value s.headers headers h.fields within.section.count_fits at.fields in
+    let count =
+    fields_count (header_bytes w) name_and_value s.headers headers h.fields within.section.count_fits at.fields in
     (drop s.len w, at.reads, omega (arith, count, within.section.count_fits, room))
 
 -- A head whose survey finds a fault is faulty.
@@ -129,7 +132,8 @@ judged_bad w headers s seen within of room is_seen bad =
     sym (survey_is_faulty s.version lines) ∙ ap (λ (x : Survey). x.repeated || x.faulty) (sym is_seen) ∙ bad in (
       of.0,
       begun_at w headers s of.0 within of.1 room,
-      judge_at w headers s of.0 of.1 ∙ judged_faulty (span_bytes w s.method) (span_bytes w s.path) s.version lines fault,
+      judge_at w headers s of.0 of.1
+          ∙ judged_faulty (span_bytes w s.method) (span_bytes w s.path) s.version lines fault,
     )
 
 -- A head whose survey finds none is whole, and says what was found.

@@ -64,7 +64,8 @@ method_next true v e f = absurd (false≢true (sym e))
 method_next false false e f = absurd (false≢true f)
 method_next false true e f = refl
 
-method_stays : (m u : List ℕ) → AllPass is_token_byte m → AllPass is_uri_byte u → last_place Method (m ++ 32 ∷ u) ≡ Target
+method_stays : (m u : List ℕ) → AllPass is_token_byte m → AllPass is_uri_byte u
+    → last_place Method (m ++ 32 ∷ u) ≡ Target
 method_stays [] u all uri = target_stays u uri
 method_stays (b ∷ m) u all uri =
     let here : is_token_byte b ≡ true = All-head (λ v. is_token_byte v ≡ true) b m all in
@@ -106,7 +107,8 @@ one_cr b t true is more e =
     (crlf ∷ x.0, x.1, x.2, x.3, x.4, ap (λ (n : ℕ). 13 ∷ n ∷ t) feed ∙ ap (λ (l : List ℕ). 13 ∷ 10 ∷ l) x.5)
 one_cr b t false is more e = absurd (lost_stays t e)
 
-both : (t : List ℕ) → (last_place Blank t ≡ Target → EndsInTarget t) × (last_place AfterCr t ≡ Target → EndsInTarget (13 ∷ t))
+both : (t : List ℕ)
+    → (last_place Blank t ≡ Target → EndsInTarget t) × (last_place AfterCr t ≡ Target → EndsInTarget (13 ∷ t))
 both [] = (λ e. absurd (cc), λ e. absurd (cc))
 both (b ∷ t) =
     let tail = both t in (

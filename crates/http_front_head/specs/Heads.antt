@@ -11,10 +11,11 @@ use Rattle.http_front_head.specs.declared.kind.Kind.{Kind}
 use Rattle.http_front_head.specs.declared.kind.Kind.TheVariants.{Found, Open, Lost, Crowded}
 use Rattle.http_front_head.specs.Parts.{judge}
 
--- the greatest number of bytes of a head, and of its header lines
+-- the greatest number of bytes of a head
 abbrev pub longest_head : ℕ
 longest_head = 16384
 
+-- the greatest number of its header lines
 abbrev pub most_lines : ℕ
 most_lines = 64
 

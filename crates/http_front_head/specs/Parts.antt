@@ -80,7 +80,9 @@ has_faulty_length lines = repeats_length lines || list_any is_faulty_line lines
 
 -- the method, as far as it is told apart
 abbrev pub verb_of : List ℕ → Verb
-verb_of method = if bytes_eq method (codes "GET") then Get else (if bytes_eq method (codes "HEAD") then HeadOnly else Other)
+verb_of method =
+    if bytes_eq method (codes "GET") then Get
+    else (if bytes_eq method (codes "HEAD") then HeadOnly else Other)
 
 -- what is said by these parts
 abbrev pub parts_of : (method target : List ℕ) → (minor : ℕ) → List Line → HeadParts

@@ -1,8 +1,8 @@
 //! The heads of requests, as the first bytes of an input hold them.
 //!
-//! [`read_head`] is a function of the bytes so far: they are a whole head, or need more bytes, or no whole head can come
-//! of them. `httparse` reads the head; what it leaves open, whether the header lines are too many and whether bytes end
-//! inside a target, is decided here.
+//! [`read_head`] is a function of the bytes so far: they are a whole head, or need more bytes, or no whole head can
+//! come of them. `httparse` reads the head; what it leaves open is decided here: whether the header lines are too
+//! many, and whether bytes end inside a target.
 #![tactic(auto)]
 
 mod judging;

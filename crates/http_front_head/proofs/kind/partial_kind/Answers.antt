@@ -7,7 +7,8 @@ returns-in-None c =
     record {
       none = c.requires.0;
       may = c.requires.1;
-      few = λ x. (let many = exceeds_line_count c.args.bytes.now x in absurd (omega (arith, many, c.in-None.ensures.fewer)));
+      few = λ x. (let many = exceeds_line_count c.args.bytes.now x in
+          absurd (omega (arith, many, c.in-None.ensures.fewer)));
     }
 
 pub returns-in-Some : goal.returns-in-Some

@@ -17,16 +17,19 @@ loop-left-preserved c =
     let line : lines_end left (drop at bytes) ≡ suc (lines_end c.if-bytes-at-eq10.left (drop (at + 1) bytes)) =
     elim c.if-bytes-at-eq10.branch [
       | then-bytes-at-eq10 w ↦ ap (lines_end left) split
-          ∙ lines_end_feed left c.if-bytes-at-eq10.left byte (drop (at + 1) bytes) some w.if-bytes-at-eq10.true w.left-is
+          ∙ lines_end_feed left c.if-bytes-at-eq10.left byte (drop (at + 1) bytes) some w.if-bytes-at-eq10.true
+          w.left-is
       | else-bytes-at-eq10 w ↦ ap (lines_end left) split
           ∙ lines_end_other left byte (drop (at + 1) bytes) some w.if-bytes-at-eq10.false
           ∙ ap (λ (n : ℕ). suc (lines_end n (drop (at + 1) bytes))) (sym w.left-is)
     ] in
     let count : feeds (drop at bytes) + c.if-bytes-at-eq10.left ≡ feeds (drop (at + 1) bytes) + left =
     elim c.if-bytes-at-eq10.branch [
-      | then-bytes-at-eq10 w ↦ (let one = ap feeds split ∙ feeds_feed byte (drop (at + 1) bytes) w.if-bytes-at-eq10.true in
+      | then-bytes-at-eq10 w ↦ (let one =
+          ap feeds split ∙ feeds_feed byte (drop (at + 1) bytes) w.if-bytes-at-eq10.true in
           omega (arith, one, w.left-is, c.loop-left-test.true))
-      | else-bytes-at-eq10 w ↦ (let none = ap feeds split ∙ feeds_other byte (drop (at + 1) bytes) w.if-bytes-at-eq10.false in
+      | else-bytes-at-eq10 w ↦ (let none =
+          ap feeds split ∙ feeds_other byte (drop (at + 1) bytes) w.if-bytes-at-eq10.false in
           omega (arith, none, w.left-is))
     ] in
     record {
