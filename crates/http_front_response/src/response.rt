@@ -1,5 +1,5 @@
 //! The bytes of responses.
-ghost use Rattle.std.specs.Prelude.{◌≡◌, ◌++◌, IfOk, OnOk, codes};
+ghost use Rattle.std.specs.Prelude.{◌≡◌, ◌≤◌, ◌++◌, length, IfOk, OnOk, codes};
 ghost use Rattle.std.specs.String.{string_bytes};
 ghost use Rattle.http_front_response.specs.Response as spec;
 ghost use Rattle.http_front_response.specs.Response.{HasReason};
@@ -82,6 +82,7 @@ fn sent_body(reply: &Reply, head_only: bool) -> &[u8]
 
 /// The bytes of the response with this reply: of this generation, where it is of one; whether the connection closes
 /// behind it; whether it is to a HEAD and lacks the body. Its status is one that has a reason here.
+#[tactic(auto, using(crate::proofs::Sizes::response_has_bytes))]
 pub fn print_response(
     alloc: Global,
     reply: &Reply,
@@ -90,7 +91,8 @@ pub fn print_response(
     head_only: bool,
 ) -> Result<Text, AllocError>
     requires { HasReason reply.now.status }
-    ensures { IfOk result (λ bytes. bytes ≡ spec.response_bytes reply.now generation close head_only) }
+    ensures bytes { IfOk result (λ bytes. bytes ≡ spec.response_bytes reply.now generation close head_only) }
+    ensures some { IfOk result (λ bytes. 1 ≤ length bytes) }
 {
     let status = reply.status;
     let lines = print_lines(alloc, status, reason(status), reply.body.len())?;
