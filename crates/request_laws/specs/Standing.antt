@@ -1,0 +1,29 @@
+-- What a request that runs rests on.
+use Rattle.std.specs.Prelude.{◌≡◌, ℕ, true, List, Some, Contains}
+use Rattle.system_events.specs.declared.event.Entry.{Entry}
+use Rattle.system_events.specs.declared.event.Kept.{Kept}
+use Rattle.system_events.specs.declared.event.Kept.TheVariants.{End, Refuse}
+use Rattle.system_events.specs.Facts.{Facts}
+use Rattle.system_events.specs.State.{State, is_in, running_request}
+
+module _ {M T V P Q R F : Type 0} where
+  -- the entry ends no request
+  abbrev pub IsNoEnd : Kept M T V P Q R F → Type 0
+  IsNoEnd (End reply) = ⊥
+  IsNoEnd (Refuse cause) = ⊥
+  IsNoEnd _ = Unit {0}
+
+  -- the entry doesn't end the request of seat k
+  abbrev pub LeavesRequest : ℕ → Entry M T V P Q R F → Type 0
+  LeavesRequest k entry = entry.seat ≡ k → IsNoEnd entry.kept
+
+module _ {M T V P Q R F : Type 0} (f : Facts T V P Q R F) where
+  -- From one state to another the seat goes on running its request, on the same program, and no task left the table.
+  pub record GoesOn (old new : State M T V P Q R F) (k : ℕ) (q : Q) : Type 0 where
+    pub request : running_request new k ≡ Some q
+    pub program : new.counts.program ≡ old.counts.program
+    pub table : (task : T) → is_in f task old.table ≡ true → is_in f task new.table ≡ true
+
+  -- each of these tasks is in the table
+  abbrev pub AreIn : List T → State M T V P Q R F → Type 0
+  AreIn tasks s = (task : T) → Contains tasks task → is_in f task s.table ≡ true
