@@ -26,7 +26,10 @@ use Rattle.system_laws.proofs.Others.{marks_stay}
 use Rattle.system_laws.proofs.Runs.{request_grown}
 use Rattle.system_laws.proofs.Table.{in_kept}
 use Rattle.system_laws.proofs.Tidy.{first_none}
-use Rattle.request_laws.specs.Standing.{GoesOn, LeavesRequest, IsNoEnd, AreIn}
+use Rattle.request_actor.specs.Talks.{Talks}
+use Rattle.request_actor.specs.Answers.{IsOnWay}
+use Rattle.request_actor.specs.declared.actor.Stage.{Stage}
+use Rattle.request_laws.specs.Standing.{GoesOn, LeavesRequest, IsNoEnd, AreIn, IsServed}
 
 -- MARKS
 
@@ -138,3 +141,18 @@ module _ {M T V P Q R F : Type 0} (f : Facts T V P Q R F) where
       let same : q ≡ request = same_Some _ _ (sym runs_q ∙ is) in
       subst (λ (r : Q). IsReply f s r reply) same
       (holds.0, λ task asked known. there task (holds.1 task asked known))
+
+module _ {M T V P Q R F G W E : Type 0} (f : Facts T V P Q R F) (talks : Talks T V P Q R E G W) where
+  -- a request that is served is served still, whatever step is made, until it ends
+  pub served_stays : (equal : SameIsEqual f) (old new : State M T V P Q R F) (entry : Entry M T V P Q R F) (k : ℕ)
+      (q : Q) (found : List T) (stage : Stage Q T W (Cause M T V P Q R F)) → IsExclusive old.seats →
+      IsStep f old entry new → LeavesRequest k entry → IsServed f talks old k q found stage →
+      IsServed f talks new k q found stage
+  served_stays equal old new entry k q found stage exclusive step leaves served =
+      let goes : GoesOn f old new k q = request_goes_on f equal old new entry k q exclusive step served.runs leaves in
+      record {
+        runs = goes.request;
+        begins = served.begins;
+        way = subst (λ (p : P). IsOnWay f talks p q found stage) (sym goes.program) served.way;
+        there = λ task has. goes.table task (served.there task has);
+      }

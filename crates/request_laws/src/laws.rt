@@ -1,5 +1,6 @@
 //! The laws.
 ghost use Rattle.std.specs.Prelude.{◌≡◌, ℕ, List, [], Some};
+ghost use Rattle.system_events.specs.declared.event.Cause.{Cause};
 ghost use Rattle.system_events.specs.declared.event.Entry.{Entry};
 ghost use Rattle.system_events.specs.declared.event.Kept.{Kept};
 ghost use Rattle.system_events.specs.declared.event.Want.{Want};
@@ -12,7 +13,7 @@ ghost use Rattle.request_actor.specs.Answers.{Holds};
 ghost use Rattle.request_actor.specs.declared.actor.Stage.{Stage};
 ghost use Rattle.request_laws.specs.Conduct.{IsConduct};
 ghost use Rattle.request_laws.specs.Making.{Passes};
-ghost use Rattle.request_laws.specs.Standing.{GoesOn, LeavesRequest, AreIn};
+ghost use Rattle.request_laws.specs.Standing.{GoesOn, LeavesRequest, AreIn, IsServed};
 
 use request_actor::Requests;
 use system_events::Matter;
@@ -24,6 +25,16 @@ pub fn running_requests_go_on<M: Matter>()
         (entry : Entry M M.Task M.Value M.Program M.Request M.Reply M.Fault) (k : ℕ) (q : M.Request) →
         IsExclusive old.seats → IsStep M.facts old entry new → running_request old k ≡ Some q →
         LeavesRequest k entry → GoesOn M.facts old new k q }
+{}
+
+/// A request that is served is served still, whatever step any seat makes, until its own seat ends it.
+pub fn served_requests_stay<M: Requests>()
+    ensures { (old new : State M M.Task M.Value M.Program M.Request M.Reply M.Fault)
+        (entry : Entry M M.Task M.Value M.Program M.Request M.Reply M.Fault) (k : ℕ) (q : M.Request)
+        (found : List M.Task)
+        (stage : Stage M.Request M.Task M.Waiting (Cause M M.Task M.Value M.Program M.Request M.Reply M.Fault)) →
+        IsExclusive old.seats → IsStep M.facts old entry new → LeavesRequest k entry →
+        IsServed M.facts M.talks old k q found stage → IsServed M.facts M.talks new k q found stage }
 {}
 
 /// A task that a request loads is one of the program's, so that its seat may seek or take the load.
