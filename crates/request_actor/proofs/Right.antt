@@ -1,6 +1,6 @@
 -- A request whose answers are right stays on its way.
-use Rattle.std.proofs.Common.{◌≡◌, List, [], ◌∷◌, ◌++◌, Option, Some, None, true, refl, sym, ap, ◌∙◌, subst, inl, inr}
-use Rattle.std.proofs.Common.{append-nil, zero, suc, arith, length}
+use Rattle.std.proofs.Common.{◌≡◌, List, [], ◌∷◌, ◌++◌, Some, None, true, refl, sym, ap, ◌∙◌, subst, inl, inr}
+use Rattle.std.proofs.Common.{append-nil, zero, suc, arith}
 use Rattle.std.specs.Prelude.{is_some, Contains}
 use Rattle.std.proofs.lemmas.Bool.{true≢false}
 use Rattle.std.proofs.lemmas.List.{append_assoc}
@@ -11,7 +11,7 @@ use Rattle.system_events.specs.declared.event.Cause.{Cause}
 use Rattle.system_events.specs.declared.event.Want.TheVariants.{Unload}
 use Rattle.request_actor.specs.Talks.{Talks, AreOf, asked_over, asked_next, reply_over, reply_next}
 use Rattle.request_actor.specs.Order.{Goes, GoesOn, Runs, AfterCheck, AfterRelease, AfterLook, AfterLoad, after_reload}
-use Rattle.request_actor.specs.Answers.{IsLeft, IsAfter, IsOnWay, IsRight, Holds, KeepsRight, found_after}
+use Rattle.request_actor.specs.Answers.{IsLeft, IsAfter, IsOnWay, Holds, KeepsRight}
 use Rattle.request_actor.specs.declared.actor.After.{After}
 use Rattle.request_actor.specs.declared.actor.After.TheVariants as after
 use Rattle.request_actor.specs.declared.actor.Stage.{Stage}

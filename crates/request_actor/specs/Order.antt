@@ -1,5 +1,5 @@
 -- The order of a request's operations.
-use Rattle.std.specs.Prelude.{◌≡◌, ◌≢◌}
+use Rattle.std.specs.Prelude.{◌≡◌}
 use Rattle.by_need.specs.Asking.{Asking, Gives, Ask}
 use Rattle.system_events.specs.declared.event.Cause.{Cause}
 use Rattle.system_events.specs.declared.event.Cause.TheVariants.{Memory}

@@ -1,7 +1,5 @@
-use Rattle.std.proofs.Common.{◌≡◌, sym, subst, Ok}
+use Rattle.std.proofs.Common.{◌≡◌}
 use Rattle.std.proofs.lemmas.Result.{IfOk-weaker}
-use Rattle.request_actor.specs.Order.{Goes, Runs}
-use Rattle.request_actor.specs.Answers.{KeepsRight}
 use Rattle.request_actor.specs.declared.actor.Stage.TheVariants as stage
 use Rattle.request_actor.proofs.Right.{keeps_right, goes_at, runs_whole}
 use Rattle.request_actor.proofs.actor.Actor.next.Goals as goal

@@ -1,0 +1,52 @@
+-- A load section of a seat: what it has done, and what each of its defines makes.
+use Rattle.std.specs.Prelude.{◌≡◌, ℕ, List, Option, Some, None, Bool, true, false}
+use Rattle.by_need.specs.Blame.{blame}
+use Rattle.by_need.specs.Order.{Load}
+use Rattle.by_need.specs.Rounds.{Rules}
+use Rattle.by_need_loader.specs.Ends.{GoesOn}
+use Rattle.by_need_loader.specs.Failures.{cause}
+use Rattle.by_need_loader.specs.Progress.{Progress}
+use Rattle.by_need_loader.specs.Runs.{Runs}
+use Rattle.by_need_loader.specs.Steps.{IsReady}
+use Rattle.system_seats.specs.Guards.{define_guard}
+use Rattle.system_events.specs.declared.event.Want.TheVariants.{Load as Load-Want}
+use Rattle.system_events.specs.declared.event.Kept.TheVariants.{Define}
+use Rattle.system_events.specs.Facts.{Facts}
+use Rattle.system_events.specs.State.{State, section_want}
+use Rattle.system_events.specs.Steps.{effect}
+use Rattle.system_core.specs.Tables.{lookup}
+use Rattle.load_sections.specs.declared.section.Made.{Made}
+use Rattle.load_sections.specs.declared.section.Made.TheVariants.{Defined, Loaded, Failed}
+
+module _ {M T V P Q R F : Type 0} (f : Facts T V P Q R F) where
+  -- the table as a function: the value of each task that it has
+  abbrev pub table_at : State M T V P Q R F → T → Option V
+  table_at s task = lookup f task s.table
+
+module _ {M T V P Q R F E O G W N : Type 0} (f : Facts T V P Q R F) (r : Rules T V E O) (m : Runs T V E O G W N)
+    (sought : T) (at_first : T → Option V) where
+  -- The seat is exclusive for a load of the sought task. Since its section opened over the table `at_first` its loader
+  -- has defined what the table gained, and goes on rightly.
+  pub record IsLoading (s : State M T V P Q R F) (seat : ℕ) (loader : Progress T G W N) : Type 0 where
+    pub section : section_want s seat ≡ Some (Load-Want sought)
+    pub passes : define_guard s.seats seat ≡ None
+    pub ready : IsReady loader.phase
+    pub goes_on : GoesOn r m sought at_first (table_at f s) loader
+
+  -- the section has defined what a load of the sought task defines, in its order, up to its end
+  pub record HasLoaded (s : State M T V P Q R F) (done : Bool) : Type 0 where
+    pub made : List (T × V)
+    pub order : Load r at_first sought made (table_at f s) done
+
+  -- What comes of a call. Defined: a task that is known was defined, and the section goes on. Loaded: the sought task
+  -- is known and in the table. Failed: it stays unknown, and this is its blame. At both ends the state stays, and the
+  -- section has defined what a load over the table `at_first` defines.
+  abbrev pub IsMade : State M T V P Q R F → State M T V P Q R F → ℕ → Progress T G W N → Made T E O → Type 0
+  IsMade old new seat loader (Defined task) =
+      (new ≡ effect f old seat (Define task)) × IsLoading new seat loader
+  IsMade old new seat loader Loaded =
+      (new ≡ old) × HasLoaded old true
+      × ((value : V) × ((f.known old.counts.program sought ≡ Some value) × (table_at f old sought ≡ Some value)))
+  IsMade old new seat loader (Failed failure) =
+      (new ≡ old) × HasLoaded old false × (f.known old.counts.program sought ≡ None)
+      × (blame r sought ≡ cause failure)
