@@ -1,5 +1,5 @@
 -- Counts of faults over several calls.
-use Rattle.std.specs.Prelude.{ℕ, ◌+◌, ◌-◌, ◌^◌, ◌≤◌, min, Bool, true, false}
+use Rattle.std.specs.Prelude.{ℕ, ◌≤◌, Bool, true, false}
 use Rattle.std.proofs.Common.{arith}
 use Rattle.outside.specs.Faults.{Rose, Counts}
 

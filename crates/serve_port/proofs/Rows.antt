@@ -1,6 +1,6 @@
 -- Rows of workers and closers, with one more at the end.
-use Rattle.std.specs.Prelude.{◌≡◌, ℕ, ◌+◌, ◌<◌, List, [], ◌∷◌, ◌++◌, All, length, ⊤}
-use Rattle.std.proofs.Common.{arith, zero, suc, refl, sym, subst, ap, ◌∙◌, length-append, get_or}
+use Rattle.std.specs.Prelude.{◌≡◌, ℕ, ◌+◌, List, [], ◌∷◌, ◌++◌, All, length}
+use Rattle.std.proofs.Common.{arith, zero, suc, subst, ap, ◌∙◌, length-append, get_or}
 use Rattle.std.proofs.Math.ListN.{get_or-append}
 use Rattle.std.proofs.Math.Seq.{get_or-append_seam}
 use Rattle.std.proofs.lemmas.List.Elements.{All-append}
@@ -13,7 +13,8 @@ links_got_more count [] c = omega arith
 links_got_more count (x ∷ xs) c = let rest = links_got_more count xs c in omega (arith, rest)
 
 -- what holds of all holds of all but the last
-pub all_but_last : {C : Type 0} (P : C → Type 0) (old now : List C) (c : C) → old ≡ now ++ c ∷ [] → All P old → All P now
+pub all_but_last : {C : Type 0} (P : C → Type 0) (old now : List C) (c : C) → old ≡ now ++ c ∷ [] → All P old →
+    All P now
 all_but_last P old now c is all k d below =
     let l : length old ≡ length now + 1 = ap length is ∙ length-append now (c ∷ []) in
     let same : get_or old k d ≡ get_or now k d = ap (λ xs. get_or xs k d) is ∙ get_or-append now (c ∷ []) d k below in

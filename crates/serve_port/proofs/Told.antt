@@ -1,5 +1,5 @@
 -- What closers tell.
-use Rattle.std.specs.Prelude.{◌≡◌, ◌⊎◌, ℕ, Bool, true, false, List, [], ◌∷◌, ◌++◌, Option, Some, None, All, IfSome, length}
+use Rattle.std.specs.Prelude.{◌≡◌, ℕ, true, false, List, [], ◌∷◌, Option, Some, None, IfSome, length}
 use Rattle.std.proofs.Common.{arith, sym, subst, inl, inr}
 use Rattle.std.proofs.lemmas.List.Elements.{All-append}
 use Rattle.outside.specs.Told.{appended}
@@ -26,7 +26,8 @@ answered_with answered before now link tells told fact = elim tells [
 pub answered_more : {L : Type 0} (answered : L → Type 0) (before now : Option (List L)) (link : L) (service : Service) →
     TellsMore link before now → TellsAnswered answered before → IfWhole service (answered link) →
     is_short service ≡ false → TellsAnswered answered now
-answered_more answered before now link Whole tells told fact whole = answered_with answered before now link tells told fact
+answered_more answered before now link Whole tells told fact whole =
+    answered_with answered before now link tells told fact
 answered_more answered before now link Short tells told fact whole = absurd (let bad : true ≡ false = whole in cc)
 
 -- a list without a length has nothing in it that isn't answered

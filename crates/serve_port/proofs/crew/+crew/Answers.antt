@@ -1,5 +1,4 @@
-use denote.Param.Send.{IsSync, IsSend}
-use Rattle.std.proofs.Common.{rules, ◌≡◌, sym, subst, List, [], ◌∷◌, ◌++◌, All}
+use Rattle.std.proofs.Common.{rules, ◌≡◌, sym, subst, [], ◌∷◌, ◌++◌}
 use Rattle.serve_port.specs.Answered.{AllTellAnswered, TellsAnswered, Pairwise}
 use Rattle.serve_port.proofs.Rows.{all_but_last, holds_of_last, all_with_last, pairwise_with_last}
 use Rattle.serve_port.proofs.crew.+crew.Goals as goal
@@ -18,7 +17,8 @@ pub returns-clause-became : goal.returns-clause-became
 returns-clause-became g t c =
     let R = g.W.ServesLinks.became in
     subst (λ xs. Pairwise R xs c.push_reserved.new.self.items) (sym c.in-Some-Some.ensures.items)
-    (subst (λ ys. Pairwise R (c.pop.new.self.items ++ c.in-Some-Some.server ∷ []) ys) (sym c.push_reserved.ensures.items)
+    (subst (λ ys. Pairwise R (c.pop.new.self.items ++ c.in-Some-Some.server ∷ []) ys)
+    (sym c.push_reserved.ensures.items)
     (pairwise_with_last R _ _ _ _ c.join-done.ensures.second.1.1.1.1.1.0 c.join-done.ensures.first.3))
 
 pub returns-clause-answered : goal.returns-clause-answered

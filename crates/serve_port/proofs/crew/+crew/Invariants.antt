@@ -1,4 +1,4 @@
-use Rattle.std.specs.Prelude.{◌+◌, ◌*◌, vec_len}
+use Rattle.std.specs.Prelude.{◌+◌, ◌*◌}
 use Rattle.serve_port.proofs.crew.+crew.Given as goal
 
 abbrev pub decreases-serve_all : goal.decreases-serve_all

@@ -1,4 +1,4 @@
-use Rattle.std.proofs.Common.{◌≡◌, ◌+◌, ◌≤◌, length, drop, ap, sym, ◌∙◌, arith}
+use Rattle.std.proofs.Common.{◌+◌, ◌≤◌, length, drop, ap, ◌∙◌, arith}
 use Rattle.connection_window.proofs.Windows.{window_less, window_length}
 use Rattle.connection_window.proofs.window.Window.use_up.Goals as goal
 

@@ -1,0 +1,6 @@
+pub mod Told
+pub mod HeadLaws
+pub mod GainLaws
+pub mod Steps
+pub mod Complete
+pub mod Answered
