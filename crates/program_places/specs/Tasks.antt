@@ -6,6 +6,7 @@ use Rattle.ruby_types.specs.declared.request.Task.TheVariants as task
 use Rattle.program_places.specs.Paths.{Path}
 use Rattle.program_places.specs.Places.{Index, Owned, Content, Faulty, Opened, Opening, AsksFor}
 
+-- Each member of a list is so.
 abbrev pub EachIs : {A : Type 0} → (A → Type 0) → List A → Type 0
 EachIs P [] = Unit {0}
 EachIs P (x ∷ xs) = P x × EachIs P xs

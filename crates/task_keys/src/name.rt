@@ -73,7 +73,8 @@ impl<'a> NameBytes<'a> {
 
     /// The next byte, and what is left behind it.
     fn next(self) -> Option<(u8, Self)>
-        ensures { MatchOption result (bytes_left self.entry ≡ []) (λ next. bytes_left self.entry ≡ next.0 ∷ bytes_left next.1) }
+        ensures { MatchOption result (bytes_left self.entry ≡ [])
+            (λ next. bytes_left self.entry ≡ next.0 ∷ bytes_left next.1) }
     {
         let mut left = self;
         'pieces: loop {
