@@ -1,0 +1,23 @@
+use Rattle.std.proofs.Common.{◌≡◌, ◌++◌, codes, Some, IfOk, List, ℕ, append_assoc, subst}
+use Rattle.program_files.specs.Faults.{fault}
+use Rattle.program_faults.specs.Read.{used}
+use Rattle.ruby_types.specs.Paths.{path_text}
+use Rattle.ruby_types.specs.declared.request.ErrorClass.TheVariants as class
+use Rattle.program_faults.proofs.messages.undefined.Goals as goal
+
+pub returns : goal.returns
+returns c =
+    let text : c.extend_from_slice-4.new.self.items
+    ≡ codes "expected file " ++ (c.args.file.now.path.now ++ (codes " to define constant "
+    ++ (path_text c.args.file.now.constant.now ++ codes ", but didn't"))) =
+    rw (
+      c.in_ok-extend_from_slice-4.ensures.items,
+      c.in_ok-push_path.ensures,
+      c.in_ok-extend_from_slice-3.ensures.items,
+      c.in_ok-extend_from_slice-2.ensures.items,
+      c.as_bytes.ensures,
+      c.in_ok-extend_from_slice.ensures.items,
+      c.new-message.ensures.items,
+    ) (simp append_assoc) in
+    subst (λ (message : List ℕ). IfOk c.error_of.result
+    (λ error. Some error ≡ fault (used c.args.file.now) class.Name message)) text c.error_of.ensures
