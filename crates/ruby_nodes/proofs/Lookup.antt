@@ -106,4 +106,5 @@ pub BelowAll_at : (k : ℕ) (ns : List Node) (i j : ℕ) (d : Node) → i < leng
     Below j (get_or ns i d)
 BelowAll_at k [] i j d lt is b = absurd (omega arith)
 BelowAll_at k (n ∷ more) zero j d lt is b = subst (λ a. Below a n) (omega (arith, is)) b.0
-BelowAll_at k (n ∷ more) (suc i) j d lt is b = BelowAll_at (suc k) more i j d (omega (arith, lt)) (omega (arith, is)) b.1
+BelowAll_at k (n ∷ more) (suc i) j d lt is b =
+    BelowAll_at (suc k) more i j d (omega (arith, lt)) (omega (arith, is)) b.1
