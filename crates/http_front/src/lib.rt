@@ -9,6 +9,8 @@
 //! | [`Notice::reply`] | why there is no reply of the application's own | the reply that tells it |
 #![tactic(auto)]
 
-pub use http_front_head::{Head, HeadParts, LONGEST_HEAD, MOST_LINES, Verb, read_head};
+pub use http_front_head::{
+    Head, HeadParts, LONGEST_HEAD, MOST_LINES, Verb, heads_are_lawful, read_head,
+};
 pub use http_front_request::{LONGEST_TARGET, TargetFault, request_of};
 pub use http_front_response::{Notice, print_response};

@@ -1,6 +1,6 @@
 -- Bytes are one head, and what they are stays as more come.
 use Rattle.std.proofs.Common.{◌≡◌, ◌⊎◌, ◌+◌, ◌-◌, ◌<◌, ◌≤◌, ℕ, zero, suc, List, [], ◌∷◌, ◌++◌, length, take}
-use Rattle.std.proofs.Common.{refl, sym, ap, ◌∙◌, subst, arith, append_assoc, append-nil, length-append, length-take}
+use Rattle.std.proofs.Common.{refl, sym, ap, ◌∙◌, subst, arith, append-nil, length-append, length-take}
 use Rattle.std.proofs.Common.{inl, inr, Option, Some, None}
 use Rattle.std.proofs.lemmas.List.{take-append-le}
 use Rattle.httparse.specs.Grammar.{RequestHead, print_request, ReadsRequest}
@@ -11,10 +11,10 @@ use Rattle.http_front_head.specs.declared.parts.Head.{Head}
 use Rattle.http_front_head.specs.declared.parts.Head.TheVariants.{Whole, More, Bad, Long, Many, Memory}
 use Rattle.http_front_head.specs.declared.parts.HeadParts.{HeadParts}
 use Rattle.http_front_head.specs.Parts.{judge}
-use Rattle.http_front_head.specs.Heads.{window, BeginsHead, BeginsFaultyHead, IsOpen, IsLost, IsHead, IsHopeless}
+use Rattle.http_front_head.specs.Heads.{looked_at, BeginsHead, BeginsFaultyHead, IsOpen, IsLost, IsHead, IsHopeless}
 use Rattle.http_front_head.proofs.Shapes.{head_has_bytes, exceeds_all, exceeds_append}
 
--- ---- the window
+-- ---- the bytes that are looked at
 
 take_row : (n k : ℕ) (xs ys : List ℕ) → k ≡ n - length xs → take n (xs ++ ys) ≡ take n xs ++ take k ys
 take_row zero k [] ys e = let none : k ≡ 0 = omega (arith, e) in rw none refl
@@ -22,21 +22,21 @@ take_row (suc n) k [] ys e = let all : k ≡ suc n = omega (arith, e) in rw all 
 take_row zero k (x ∷ xs) ys e = let none : k ≡ 0 = omega (arith, e) in rw none refl
 take_row (suc n) k (x ∷ xs) ys e = ap (λ (t : List ℕ). x ∷ t) (take_row n k xs ys (omega (arith, e)))
 
--- The window of longer bytes begins with the window of the shorter.
-pub window_append : (b c : List ℕ) → window (b ++ c) ≡ window b ++ take (16384 - length b) c
-window_append b c = take_row 16384 (16384 - length b) b c refl
+-- What is looked at of longer bytes begins with what is of the shorter.
+pub looked_at_append : (b c : List ℕ) → looked_at (b ++ c) ≡ looked_at b ++ take (16384 - length b) c
+looked_at_append b c = take_row 16384 (16384 - length b) b c refl
 
--- A full window stays as more bytes come.
-pub window_full : (b c : List ℕ) → 16384 ≤ length b → window (b ++ c) ≡ window b
-window_full b c full = take-append-le 16384 b c full
+-- Where as many are there as are looked at, those stay as more come.
+pub looked_at_full : (b c : List ℕ) → 16384 ≤ length b → looked_at (b ++ c) ≡ looked_at b
+looked_at_full b c full = take-append-le 16384 b c full
 
 begun_grows : (w c : List ℕ) (h : RequestHead) → BeginsHead w h → BeginsHead (w ++ c) h
 begun_grows w c h x = (x.0 ++ c, ReadsRequest-append w h x.0 c x.1, x.2)
 
-begun_stays : (b c : List ℕ) (h : RequestHead) → BeginsHead (window b) h → BeginsHead (window (b ++ c)) h
+begun_stays : (b c : List ℕ) (h : RequestHead) → BeginsHead (looked_at b) h → BeginsHead (looked_at (b ++ c)) h
 begun_stays b c h x =
-    subst (λ (w : List ℕ). BeginsHead w h) (sym (window_append b c))
-    (begun_grows (window b) (take (16384 - length b) c) h x)
+    subst (λ (w : List ℕ). BeginsHead w h) (sym (looked_at_append b c))
+    (begun_grows (looked_at b) (take (16384 - length b) c) h x)
 
 -- ---- what stays
 
@@ -48,7 +48,7 @@ whole_grows b c n p x = (x.0, begun_stays b c x.0 x.1, x.2, x.3)
 pub whole_is_within : (b : List ℕ) (n : ℕ) (p : HeadParts) → IsHead b (Whole n p) → (1 ≤ n) × (n ≤ length b)
 whole_is_within b n p x =
     let some = head_has_bytes x.0 in
-    let size : length (window b) ≡ length (print_request x.0) + length x.1.0 =
+    let size : length (looked_at b) ≡ length (print_request x.0) + length x.1.0 =
     ap length x.1.1.1 ∙ length-append (print_request x.0) x.1.0 in
     (omega (arith, x.3, some), omega (arith, x.3, size, length-take 16384 b))
 
@@ -70,16 +70,16 @@ hopeless_stays b c More n p h x y = h
 hopeless_stays b c Memory n p h x y = h
 hopeless_stays b c Bad n p h (inl x) y =
     some_none y.2 (subst (λ (k : RequestHead). judge k ≡ None)
-    (begun_unique (window (b ++ c)) x.0 y.0 (begun_stays b c x.0 x.1) y.1) x.2)
+    (begun_unique (looked_at (b ++ c)) x.0 y.0 (begun_stays b c x.0 x.1) y.1) x.2)
 hopeless_stays b c Bad n p h (inr x) y =
     x.never (take (16384 - length b) c) y.0 y.1.0
-    (subst (λ (w : List ℕ). ReadsRequest w y.0 y.1.0) (window_append b c) y.1.1)
+    (subst (λ (w : List ℕ). ReadsRequest w y.0 y.1.0) (looked_at_append b c) y.1.1)
 hopeless_stays b c Long n p h x y =
-    x.0.none y.0 y.1.0 (subst (λ (w : List ℕ). ReadsRequest w y.0 y.1.0) (window_full b c x.1) y.1.1)
+    x.0.none y.0 y.1.0 (subst (λ (w : List ℕ). ReadsRequest w y.0 y.1.0) (looked_at_full b c x.1) y.1.1)
 hopeless_stays b c Many n p h x y =
-    let over = exceeds_append 64 (window b) (take (16384 - length b) c) x in
+    let over = exceeds_append 64 (looked_at b) (take (16384 - length b) c) x in
     let many : 64 < length y.0.fields = exceeds_all 64 _ over y.0 y.1.0
-    (subst (λ (w : List ℕ). ReadsRequest w y.0 y.1.0) (window_append b c) y.1.1) in
+    (subst (λ (w : List ℕ). ReadsRequest w y.0 y.1.0) (looked_at_append b c) y.1.1) in
     omega (arith, many, y.1.2)
 
 -- ---- one head alone
@@ -97,9 +97,9 @@ open_lost : (w : List ℕ) → IsOpen w → IsLost w → ⊥
 open_lost w o l = elim o.may [ inl x ↦ l.never x.0 x.1 [] x.2 | inr t ↦ l.past_target t ]
 
 whole_bad : (b : List ℕ) (n : ℕ) (p : HeadParts) → IsHead b (Whole n p)
-    → BeginsFaultyHead (window b) ⊎ IsLost (window b) → ⊥
-whole_bad b n p x (inl y) = some_none x.2 (ap judge (begun_unique (window b) x.0 y.0 x.1 y.1) ∙ y.2)
-whole_bad b n p x (inr y) = begun_lost (window b) x.0 x.1 y
+    → BeginsFaultyHead (looked_at b) ⊎ IsLost (looked_at b) → ⊥
+whole_bad b n p x (inl y) = some_none x.2 (ap judge (begun_unique (looked_at b) x.0 y.0 x.1 y.1) ∙ y.2)
+whole_bad b n p x (inr y) = begun_lost (looked_at b) x.0 x.1 y
 
 open_bad : (w : List ℕ) → IsOpen w → BeginsFaultyHead w ⊎ IsLost w → ⊥
 open_bad w o (inl y) = begun_open w y.0 y.1 o
@@ -115,32 +115,32 @@ some_same x y = cc
 -- Bytes are one head at most.
 pub head_unique : (b : List ℕ) (x y : Head) → IsHead b x → IsHead b y → x ≡ y
 head_unique b (Whole n p) (Whole m q) x y =
-    let same = begun_unique (window b) x.0 y.0 x.1 y.1 in
+    let same = begun_unique (looked_at b) x.0 y.0 x.1 y.1 in
     let sizes : n ≡ m = x.3 ∙ ap (λ (h : RequestHead). length (print_request h)) same ∙ sym y.3 in
     let parts : p ≡ q = some_same (sym (ap judge same) ∙ x.2) y.2 in
     (λ i. Whole (sizes i) (parts i))
-head_unique b (Whole n p) More x y = absurd (begun_open (window b) x.0 x.1 y.0)
+head_unique b (Whole n p) More x y = absurd (begun_open (looked_at b) x.0 x.1 y.0)
 head_unique b (Whole n p) Bad x y = absurd (whole_bad b n p x y)
-head_unique b (Whole n p) Long x y = absurd (begun_open (window b) x.0 x.1 y.0)
-head_unique b (Whole n p) Many x y = absurd (begun_many (window b) x.0 x.1 y)
-head_unique b More (Whole m q) x y = absurd (begun_open (window b) y.0 y.1 x.0)
+head_unique b (Whole n p) Long x y = absurd (begun_open (looked_at b) x.0 x.1 y.0)
+head_unique b (Whole n p) Many x y = absurd (begun_many (looked_at b) x.0 x.1 y)
+head_unique b More (Whole m q) x y = absurd (begun_open (looked_at b) y.0 y.1 x.0)
 head_unique b More More x y = refl
-head_unique b More Bad x y = absurd (open_bad (window b) x.0 y)
+head_unique b More Bad x y = absurd (open_bad (looked_at b) x.0 y)
 head_unique b More Long x y = absurd (omega (arith, x.1, y.1))
 head_unique b More Many x y = absurd (x.0.few y)
 head_unique b Bad (Whole m q) x y = absurd (whole_bad b m q y x)
-head_unique b Bad More x y = absurd (open_bad (window b) y.0 x)
+head_unique b Bad More x y = absurd (open_bad (looked_at b) y.0 x)
 head_unique b Bad Bad x y = refl
-head_unique b Bad Long x y = absurd (open_bad (window b) y.0 x)
-head_unique b Bad Many x y = absurd (bad_many (window b) x y)
-head_unique b Long (Whole m q) x y = absurd (begun_open (window b) y.0 y.1 x.0)
+head_unique b Bad Long x y = absurd (open_bad (looked_at b) y.0 x)
+head_unique b Bad Many x y = absurd (bad_many (looked_at b) x y)
+head_unique b Long (Whole m q) x y = absurd (begun_open (looked_at b) y.0 y.1 x.0)
 head_unique b Long More x y = absurd (omega (arith, x.1, y.1))
-head_unique b Long Bad x y = absurd (open_bad (window b) x.0 y)
+head_unique b Long Bad x y = absurd (open_bad (looked_at b) x.0 y)
 head_unique b Long Long x y = refl
 head_unique b Long Many x y = absurd (x.0.few y)
-head_unique b Many (Whole m q) x y = absurd (begun_many (window b) y.0 y.1 x)
+head_unique b Many (Whole m q) x y = absurd (begun_many (looked_at b) y.0 y.1 x)
 head_unique b Many More x y = absurd (y.0.few x)
-head_unique b Many Bad x y = absurd (bad_many (window b) y x)
+head_unique b Many Bad x y = absurd (bad_many (looked_at b) y x)
 head_unique b Many Long x y = absurd (y.0.few x)
 head_unique b Many Many x y = refl
 head_unique b Memory y x _ = absurd x

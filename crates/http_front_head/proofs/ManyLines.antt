@@ -1,28 +1,23 @@
 -- Lines are counted, and bytes with many of them have too many header lines where they can become a head.
-use Rattle.std.proofs.Common.{◌≡◌, ◌⊎◌, ◌+◌, ◌-◌, ◌<◌, ◌≤◌, ◌==◌, ℕ, zero, suc, Bool, true, false, List, [], ◌∷◌, ◌++◌}
+use Rattle.std.proofs.Common.{◌≡◌, ◌+◌, ◌-◌, ◌<◌, ◌≤◌, ◌==◌, ℕ, zero, suc, Bool, true, false, List, [], ◌∷◌, ◌++◌}
 use Rattle.std.proofs.Common.{length, take, drop, refl, sym, ap, ◌∙◌, subst, arith, append_assoc, append-nil}
-use Rattle.std.proofs.Common.{length-append, length-take, inl, inr, Result, Ok}
+use Rattle.std.proofs.Common.{length-append, length-take, inl, inr}
 use Rattle.std.specs.Prelude.{All, if◌then◌else◌}
 use Rattle.std.specs.List.{flat_map}
 use Rattle.std.proofs.lemmas.Bool.{false≢true, ne_eqb, cases_lt}
 use Rattle.std.proofs.lemmas.List.Elements.{All-head, All-tail, All-take}
 use Rattle.std.proofs.lemmas.List.{take-append-le, take-append-drop, take_all, drop_all}
 use Rattle.std.proofs.lemmas.Grind.{flat_map-append}
-use Rattle.httparse.specs.declared.Status.{Status}
-use Rattle.httparse.specs.declared.Status.TheVariants.{Complete}
-use Rattle.httparse.specs.Outcome.{IfComplete}
-use Rattle.httparse.specs.declared.spans.HeaderSpan.{HeaderSpan}
-use Rattle.httparse.specs.declared.spans.RequestSpans.{RequestSpans}
 use Rattle.httparse.specs.Grammar.{is_token_byte, is_uri_byte, is_value_byte, AllPass, LineEnd, crlf, lf, print_end}
 use Rattle.httparse.specs.Grammar.{print_blank, print_version, Field, print_field, IsField, IsRequestHead, RequestHead}
 use Rattle.httparse.specs.Grammar.{print_request, ReadsRequest, HasNoRequest, MayBecomeRequest, EndsInTarget}
 use Rattle.httparse.specs.Pieces.{Stops, is_newline}
-use Rattle.httparse.specs.Spans.{RequestExceeds, RequestOverflows, IsRequestOf}
+use Rattle.httparse.specs.Spans.{RequestExceeds, RequestOverflows}
 use Rattle.httparse.proofs.PieceLemmas.{Stops_token, print_field-append}
 use Rattle.httparse.proofs.GrammarLemmas.{cons-append, request_unique, ReadsRequest-append}
 use Rattle.http_front_head.specs.Lines.{feeds, line_count, lines_end, head_end}
 use Rattle.http_front_head.specs.Heads.{IsOpen}
-use Rattle.http_front_head.proofs.Shapes.{up_to_fields, print_parts, exceeds_front, exceeds_all, exceeds_append}
+use Rattle.http_front_head.proofs.Shapes.{up_to_fields, print_parts, exceeds_front, exceeds_append}
 
 -- ---- bytes without LF
 

@@ -1,6 +1,6 @@
 -- Header lines that are read one after another say what they say together.
-use Rattle.std.proofs.Common.{◌≡◌, ◌||◌, ◌&&◌, ◌==◌, ℕ, Bool, true, false, List, [], ◌∷◌, refl, sym, ap, ◌∙◌, map, take}
-use Rattle.std.proofs.Common.{◌≤◌, Option, Some, None, length, drop, arith, length-take}
+use Rattle.std.proofs.Common.{◌≡◌, ◌||◌, ◌&&◌, ℕ, Bool, true, false, List, [], ◌∷◌, refl, sym, ap, ◌∙◌, map, take}
+use Rattle.std.proofs.Common.{◌≤◌, Some, None, length, drop, arith, length-take}
 use Rattle.std.proofs.lemmas.List.{length-map}
 use Rattle.std.specs.Prelude.{if◌then◌else◌}
 use Rattle.std.specs.List.{list_any}

@@ -8,29 +8,29 @@ use Rattle.httparse.specs.Grammar.{is_token_byte, is_uri_byte, AllPass, LineEnd,
 use Rattle.httparse.specs.Grammar.{NeverHasRequest, HasNoRequest, ReadsRequest}
 use Rattle.httparse.specs.Spans.{RequestExceeds}
 use Rattle.httparse.proofs.PieceLemmas.{space_ends_token}
-use Rattle.http_front_head.specs.declared.scan.Place.TheVariants.{Blank, AfterCr, Method, Target, Lost}
+use Rattle.http_front_head.specs.declared.scan.Stage.TheVariants.{Blank, AfterCr, Method, Target, Lost}
 use Rattle.http_front_head.specs.Heads.{IsOpen}
-use Rattle.http_front_head.specs.Lines.{last_place}
+use Rattle.http_front_head.specs.Lines.{last_stage}
 use Rattle.http_front_head.proofs.ManyLines.{token_has_no_feed}
 
 -- ---- the target
 
-target_stays : (u : List ℕ) → AllPass is_uri_byte u → last_place Target u ≡ Target
+target_stays : (u : List ℕ) → AllPass is_uri_byte u → last_stage Target u ≡ Target
 target_stays [] all = refl
 target_stays (b ∷ u) all =
     let here : is_uri_byte b ≡ true = All-head (λ v. is_uri_byte v ≡ true) b u all in
     rw here (target_stays u (All-tail (λ v. is_uri_byte v ≡ true) b u all))
 
-lost_stays : (t : List ℕ) → last_place Lost t ≡ Target → ⊥
+lost_stays : (t : List ℕ) → last_stage Lost t ≡ Target → ⊥
 lost_stays [] e = cc
 lost_stays (b ∷ t) e = lost_stays t e
 
-one_uri : (b : ℕ) (t : List ℕ) (v : Bool) → is_uri_byte b ≡ v → (last_place Target t ≡ Target → AllPass is_uri_byte t)
-    → last_place (if v then Target else Lost) t ≡ Target → AllPass is_uri_byte (b ∷ t)
+one_uri : (b : ℕ) (t : List ℕ) (v : Bool) → is_uri_byte b ≡ v → (last_stage Target t ≡ Target → AllPass is_uri_byte t)
+    → last_stage (if v then Target else Lost) t ≡ Target → AllPass is_uri_byte (b ∷ t)
 one_uri b t true is more e = All-cons (λ v. is_uri_byte v ≡ true) b t is (more e)
 one_uri b t false is more e = absurd (lost_stays t e)
 
-target_all : (t : List ℕ) → last_place Target t ≡ Target → AllPass is_uri_byte t
+target_all : (t : List ℕ) → last_stage Target t ≡ Target → AllPass is_uri_byte t
 target_all [] e = All-nil (λ v. is_uri_byte v ≡ true)
 target_all (b ∷ t) e = one_uri b t (is_uri_byte b) refl (target_all t) e
 
@@ -40,8 +40,8 @@ abbrev InMethod : List ℕ → Type 0
 InMethod t = (m : List ℕ) × (u : List ℕ) × AllPass is_token_byte m × AllPass is_uri_byte u × (t ≡ m ++ 32 ∷ u)
 
 one_method : (b : ℕ) (t : List ℕ) (s v : Bool) → (b == 32) ≡ s → is_token_byte b ≡ v
-    → (last_place Method t ≡ Target → InMethod t)
-    → last_place (if s then Target else (if v then Method else Lost)) t ≡ Target → InMethod (b ∷ t)
+    → (last_stage Method t ≡ Target → InMethod t)
+    → last_stage (if s then Target else (if v then Method else Lost)) t ≡ Target → InMethod (b ∷ t)
 one_method b t true v is token more e =
     let space : b ≡ 32 = grind (arith, is) in
     ([], t, All-nil (λ v. is_token_byte v ≡ true), target_all t e, ap (λ (x : ℕ). x ∷ t) space)
@@ -55,7 +55,7 @@ one_method b t false true is token more e =
     )
 one_method b t false false is token more e = absurd (lost_stays t e)
 
-method_all : (t : List ℕ) → last_place Method t ≡ Target → InMethod t
+method_all : (t : List ℕ) → last_stage Method t ≡ Target → InMethod t
 method_all [] e = absurd (cc)
 method_all (b ∷ t) e = one_method b t (b == 32) (is_token_byte b) refl refl (method_all t) e
 
@@ -65,21 +65,21 @@ method_next false false e f = absurd (false≢true f)
 method_next false true e f = refl
 
 method_stays : (m u : List ℕ) → AllPass is_token_byte m → AllPass is_uri_byte u
-    → last_place Method (m ++ 32 ∷ u) ≡ Target
+    → last_stage Method (m ++ 32 ∷ u) ≡ Target
 method_stays [] u all uri = target_stays u uri
 method_stays (b ∷ m) u all uri =
     let here : is_token_byte b ≡ true = All-head (λ v. is_token_byte v ≡ true) b m all in
     let other : (b == 32) ≡ false =
     ne_eqb b 32 (λ e. false≢true (sym space_ends_token ∙ ap is_token_byte (sym e) ∙ here)) in
-    ap (λ p. last_place p (m ++ 32 ∷ u)) (method_next (b == 32) (is_token_byte b) other here)
+    ap (λ p. last_stage p (m ++ 32 ∷ u)) (method_next (b == 32) (is_token_byte b) other here)
     ∙ method_stays m u (All-tail (λ v. is_token_byte v ≡ true) b m all) uri
 
 -- ---- the empty lines
 
 one_blank : (b : ℕ) (t : List ℕ) (f r v : Bool) → (b == 10) ≡ f → (b == 13) ≡ r → is_token_byte b ≡ v
-    → (last_place Blank t ≡ Target → EndsInTarget t) → (last_place AfterCr t ≡ Target → EndsInTarget (13 ∷ t))
-    → (last_place Method t ≡ Target → InMethod t)
-    → last_place (if f then Blank else (if r then AfterCr else (if v then Method else Lost))) t ≡ Target
+    → (last_stage Blank t ≡ Target → EndsInTarget t) → (last_stage AfterCr t ≡ Target → EndsInTarget (13 ∷ t))
+    → (last_stage Method t ≡ Target → InMethod t)
+    → last_stage (if f then Blank else (if r then AfterCr else (if v then Method else Lost))) t ≡ Target
     → EndsInTarget (b ∷ t)
 one_blank b t true r v is _ _ more cr inside e =
     let feed : b ≡ 10 = grind (arith, is) in
@@ -99,8 +99,8 @@ one_blank b t false false true _ _ token more cr inside e =
     )
 one_blank b t false false false _ _ _ more cr inside e = absurd (lost_stays t e)
 
-one_cr : (b : ℕ) (t : List ℕ) (f : Bool) → (b == 10) ≡ f → (last_place Blank t ≡ Target → EndsInTarget t)
-    → last_place (if f then Blank else Lost) t ≡ Target → EndsInTarget (13 ∷ b ∷ t)
+one_cr : (b : ℕ) (t : List ℕ) (f : Bool) → (b == 10) ≡ f → (last_stage Blank t ≡ Target → EndsInTarget t)
+    → last_stage (if f then Blank else Lost) t ≡ Target → EndsInTarget (13 ∷ b ∷ t)
 one_cr b t true is more e =
     let feed : b ≡ 10 = grind (arith, is) in
     let x = more e in
@@ -108,7 +108,7 @@ one_cr b t true is more e =
 one_cr b t false is more e = absurd (lost_stays t e)
 
 both : (t : List ℕ)
-    → (last_place Blank t ≡ Target → EndsInTarget t) × (last_place AfterCr t ≡ Target → EndsInTarget (13 ∷ t))
+    → (last_stage Blank t ≡ Target → EndsInTarget t) × (last_stage AfterCr t ≡ Target → EndsInTarget (13 ∷ t))
 both [] = (λ e. absurd (cc), λ e. absurd (cc))
 both (b ∷ t) =
     let tail = both t in (
@@ -117,10 +117,10 @@ both (b ∷ t) =
     )
 
 -- Where the scan ends in a target, the bytes do.
-pub inside_found : (t : List ℕ) → last_place Blank t ≡ Target → EndsInTarget t
+pub inside_found : (t : List ℕ) → last_stage Blank t ≡ Target → EndsInTarget t
 inside_found t = (both t).0
 
-blank_stays : (es : List LineEnd) (t : List ℕ) → last_place Blank (print_blank es ++ t) ≡ last_place Blank t
+blank_stays : (es : List LineEnd) (t : List ℕ) → last_stage Blank (print_blank es ++ t) ≡ last_stage Blank t
 blank_stays [] t = refl
 blank_stays (crlf ∷ es) t = blank_stays es t
 blank_stays (lf ∷ es) t = blank_stays es t
@@ -137,7 +137,7 @@ first_next false false false e g h = absurd (false≢true h)
 first_next false false true e g h = refl
 
 first_stays : (m u : List ℕ) → 0 < length m → AllPass is_token_byte m → AllPass is_uri_byte u
-    → last_place Blank (m ++ 32 ∷ u) ≡ Target
+    → last_stage Blank (m ++ 32 ∷ u) ≡ Target
 first_stays [] u some all uri = absurd (omega (arith, some))
 first_stays (b ∷ m) u some all uri =
     let here : is_token_byte b ≡ true = All-head (λ v. is_token_byte v ≡ true) b m all in
@@ -145,13 +145,13 @@ first_stays (b ∷ m) u some all uri =
     ne_eqb b 10 (λ e. false≢true (sym token_has_no_feed ∙ ap is_token_byte (sym e) ∙ here)) in
     let return : (b == 13) ≡ false =
     ne_eqb b 13 (λ e. false≢true (sym return_no_token ∙ ap is_token_byte (sym e) ∙ here)) in
-    ap (λ p. last_place p (m ++ 32 ∷ u)) (first_next (b == 10) (b == 13) (is_token_byte b) feed return here)
+    ap (λ p. last_stage p (m ++ 32 ∷ u)) (first_next (b == 10) (b == 13) (is_token_byte b) feed return here)
     ∙ method_stays m u (All-tail (λ v. is_token_byte v ≡ true) b m all) uri
 
 -- Where the bytes end in a target, the scan does.
-pub inside_all : (t : List ℕ) → EndsInTarget t → last_place Blank t ≡ Target
+pub inside_all : (t : List ℕ) → EndsInTarget t → last_stage Blank t ≡ Target
 inside_all t x =
-    ap (last_place Blank) (x.5 ∙ append_assoc (print_blank x.0) x.1 (32 ∷ x.2))
+    ap (last_stage Blank) (x.5 ∙ append_assoc (print_blank x.0) x.1 (32 ∷ x.2))
     ∙ blank_stays x.0 (x.1 ++ 32 ∷ x.2) ∙ first_stays x.1 x.2 x.3.0 x.3.1 x.4
 
 -- ---- bytes that the parser refuses

@@ -20,8 +20,8 @@ abbrev pub most_lines : ℕ
 most_lines = 64
 
 -- the bytes that are looked at
-abbrev pub window : List ℕ → List ℕ
-window bytes = take longest_head bytes
+abbrev pub looked_at : List ℕ → List ℕ
+looked_at bytes = take longest_head bytes
 
 -- bytes begin with this head, which has at most so many header lines
 abbrev pub BeginsHead : List ℕ → RequestHead → Type 0
@@ -63,11 +63,11 @@ IsJudged bytes Memory = ⊥
 --
 -- `GET /a HTTP/1.1`, CR LF, CR LF is a whole head of 19 bytes; its first 18 bytes are More; `GET /a HTTP/2` is Bad.
 abbrev pub IsHead : List ℕ → Head → Type 0
-IsHead bytes (Whole n parts) = BeginsWholeHead (window bytes) n parts
-IsHead bytes More = IsOpen (window bytes) × (length bytes < longest_head)
-IsHead bytes Bad = BeginsFaultyHead (window bytes) ⊎ IsLost (window bytes)
-IsHead bytes Long = IsOpen (window bytes) × (longest_head ≤ length bytes)
-IsHead bytes Many = RequestExceeds most_lines (window bytes)
+IsHead bytes (Whole n parts) = BeginsWholeHead (looked_at bytes) n parts
+IsHead bytes More = IsOpen (looked_at bytes) × (length bytes < longest_head)
+IsHead bytes Bad = BeginsFaultyHead (looked_at bytes) ⊎ IsLost (looked_at bytes)
+IsHead bytes Long = IsOpen (looked_at bytes) × (longest_head ≤ length bytes)
+IsHead bytes Many = RequestExceeds most_lines (looked_at bytes)
 IsHead bytes Memory = ⊥
 
 -- no whole head can come of this, however the bytes go on
@@ -79,9 +79,9 @@ IsHopeless Long = ⊤
 IsHopeless Many = ⊤
 IsHopeless Memory = ⊥
 
--- what the window is, before a head in it is judged
+-- what bytes are, before a head in them is judged
 abbrev pub IsKind : List ℕ → List HeaderSpan → Kind → Type 0
-IsKind window headers (Found spans) = IsRequestWithin window headers spans × IsRequestOf window headers spans
-IsKind window headers Open = IsOpen window
-IsKind window headers Lost = IsLost window
-IsKind window headers Crowded = RequestExceeds most_lines window
+IsKind bytes headers (Found spans) = IsRequestWithin bytes headers spans × IsRequestOf bytes headers spans
+IsKind bytes headers Open = IsOpen bytes
+IsKind bytes headers Lost = IsLost bytes
+IsKind bytes headers Crowded = RequestExceeds most_lines bytes

@@ -1,7 +1,7 @@
 -- The lines of what may become a head, and whether it ends inside a target.
-use Rattle.std.specs.Prelude.{ℕ, zero, suc, ◌+◌, ◌==◌, List, [], ◌∷◌, if◌then◌else◌}
-use Rattle.http_front_head.specs.declared.scan.Place.{Place}
-use Rattle.http_front_head.specs.declared.scan.Place.TheVariants.{Blank, AfterCr, Method, Target, Lost}
+use Rattle.std.specs.Prelude.{ℕ, zero, suc, ◌==◌, List, [], ◌∷◌, if◌then◌else◌}
+use Rattle.http_front_head.specs.declared.scan.Stage.{Stage}
+use Rattle.http_front_head.specs.declared.scan.Stage.TheVariants.{Blank, AfterCr, Method, Target, Lost}
 use Rattle.httparse.specs.Grammar.{is_token_byte, is_uri_byte}
 use Rattle.httparse.specs.Pieces.{is_newline}
 
@@ -27,15 +27,15 @@ head_end n [] = 0
 head_end n (b ∷ t) = if is_newline b then suc (head_end n t) else lines_end n (b ∷ t)
 
 -- where a byte leads: over empty lines, a method, a space and a target
-abbrev pub next_place : Place → ℕ → Place
-next_place Blank b =
+abbrev pub next_stage : Stage → ℕ → Stage
+next_stage Blank b =
     if b == 10 then Blank else (if b == 13 then AfterCr else (if is_token_byte b then Method else Lost))
-next_place AfterCr b = if b == 10 then Blank else Lost
-next_place Method b = if b == 32 then Target else (if is_token_byte b then Method else Lost)
-next_place Target b = if is_uri_byte b then Target else Lost
-next_place Lost b = Lost
+next_stage AfterCr b = if b == 10 then Blank else Lost
+next_stage Method b = if b == 32 then Target else (if is_token_byte b then Method else Lost)
+next_stage Target b = if is_uri_byte b then Target else Lost
+next_stage Lost b = Lost
 
 -- where bytes lead
-abbrev pub last_place : Place → List ℕ → Place
-last_place p [] = p
-last_place p (b ∷ t) = last_place (next_place p b) t
+abbrev pub last_stage : Stage → List ℕ → Stage
+last_stage p [] = p
+last_stage p (b ∷ t) = last_stage (next_stage p b) t

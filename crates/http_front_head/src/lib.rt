@@ -7,6 +7,7 @@
 
 mod judging;
 mod kind;
+mod laws;
 mod lines;
 mod parts;
 mod read;
@@ -14,5 +15,6 @@ mod scan;
 mod survey;
 mod trimming;
 
+pub use laws::heads_are_lawful;
 pub use parts::{Head, HeadParts, LONGEST_HEAD, MOST_LINES, Verb};
 pub use read::read_head;

@@ -14,8 +14,8 @@ use httparse::spans::EMPTY_HEADER_SPAN;
 use std::alloc::Global;
 
 /// The bytes that are looked at.
-fn window(bytes: &[u8]) -> &[u8]
-    ensures { result.now ≡ spec.window bytes.now }
+fn looked_at(bytes: &[u8]) -> &[u8]
+    ensures { result.now ≡ spec.looked_at bytes.now }
 {
     if bytes.len() <= LONGEST_HEAD {
         bytes
@@ -28,10 +28,10 @@ fn window(bytes: &[u8]) -> &[u8]
 fn head_of(alloc: Global, bytes: &[u8]) -> Head
     ensures { (result ≡ Memory) ⊎ IsHead bytes.now result }
 {
-    let window = window(bytes);
+    let front = looked_at(bytes);
     let mut headers = [EMPTY_HEADER_SPAN; MOST_LINES];
-    match kind_of(window, &mut headers) {
-        Kind::Found(spans) => judged(alloc, window, &headers, &spans),
+    match kind_of(front, &mut headers) {
+        Kind::Found(spans) => judged(alloc, front, &headers, &spans),
         Kind::Open if bytes.len() < LONGEST_HEAD => Head::More,
         Kind::Open => Head::Long,
         Kind::Lost => Head::Bad,
@@ -54,7 +54,7 @@ pub fn read_head(alloc: Global, bytes: &[u8]) -> Head
 
     // More bytes are asked for only where there are few, with few lines; lines are too many only where they are there.
     ensures short { result ≡ More → (length bytes.now < spec.longest_head) × (line_count bytes.now < 66) }
-    ensures lines { result ≡ Many → 66 ≤ line_count (spec.window bytes.now) }
+    ensures lines { result ≡ Many → 66 ≤ line_count (spec.looked_at bytes.now) }
 {
     head_of(alloc, bytes)
 }

@@ -53,9 +53,9 @@ pub fn head_end(bytes: &[u8], lines: usize) -> Option<usize>
     line_end(bytes, blank_end(bytes), lines)
 }
 
-/// Where a scan for a target stands.
+/// How far a scan for a target came.
 #[derive(Clone, Copy)]
-pub enum Place {
+pub enum Stage {
     Blank,
     AfterCr,
     Method,
@@ -63,43 +63,43 @@ pub enum Place {
     Lost,
 }
 
-impl Place {
-    fn after_blank(byte: u8) -> Place
-        ensures { result ≡ spec.next_place Place.Blank byte }
+impl Stage {
+    fn after_blank(byte: u8) -> Stage
+        ensures { result ≡ spec.next_stage Stage.Blank byte }
     {
         if byte == b'\n' {
-            Place::Blank
+            Stage::Blank
         } else if byte == b'\r' {
-            Place::AfterCr
+            Stage::AfterCr
         } else if is_method_token(byte) {
-            Place::Method
+            Stage::Method
         } else {
-            Place::Lost
+            Stage::Lost
         }
     }
 
-    fn after_method(byte: u8) -> Place
-        ensures { result ≡ spec.next_place Place.Method byte }
+    fn after_method(byte: u8) -> Stage
+        ensures { result ≡ spec.next_stage Stage.Method byte }
     {
         if byte == b' ' {
-            Place::Target
+            Stage::Target
         } else if is_method_token(byte) {
-            Place::Method
+            Stage::Method
         } else {
-            Place::Lost
+            Stage::Lost
         }
     }
 
     /// One byte on.
-    fn after(self, byte: u8) -> Place
-        ensures { result ≡ spec.next_place self byte }
+    fn after(self, byte: u8) -> Stage
+        ensures { result ≡ spec.next_stage self byte }
     {
         match self {
-            Place::Blank => Place::after_blank(byte),
-            Place::AfterCr if byte == b'\n' => Place::Blank,
-            Place::Method => Place::after_method(byte),
-            Place::Target if is_uri_token(byte) => Place::Target,
-            _ => Place::Lost,
+            Stage::Blank => Stage::after_blank(byte),
+            Stage::AfterCr if byte == b'\n' => Stage::Blank,
+            Stage::Method => Stage::after_method(byte),
+            Stage::Target if is_uri_token(byte) => Stage::Target,
+            _ => Stage::Lost,
         }
     }
 }
@@ -109,9 +109,9 @@ pub fn ends_in_target(bytes: &[u8]) -> bool
     ensures inside { IsTrue result → EndsInTarget bytes.now }
     ensures past { ¬ (IsTrue result) → ¬ (EndsInTarget bytes.now) }
 {
-    let mut place = Place::Blank;
+    let mut stage = Stage::Blank;
     for byte in bytes {
-        place = place.after(*byte);
+        stage = stage.after(*byte);
     }
-    matches!(place, Place::Target)
+    matches!(stage, Stage::Target)
 }

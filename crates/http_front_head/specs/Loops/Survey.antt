@@ -1,5 +1,5 @@
 -- What header lines say, read one after another.
-use Rattle.std.specs.Prelude.{◌==◌, ◌&&◌, ◌||◌, ℕ, Bool, false, List, [], ◌∷◌}
+use Rattle.std.specs.Prelude.{◌==◌, ◌&&◌, ◌||◌, ℕ, false, List, [], ◌∷◌}
 use Rattle.http_front_head.specs.declared.survey.Survey.{Survey}
 use Rattle.http_front_head.specs.Parts.{Line, is_close_line, is_length_line, is_body_line, is_faulty_line}
 

@@ -1,4 +1,4 @@
-use Rattle.std.proofs.Common.{◌≡◌, ◌||◌, true, false, ◌∙◌, sym, inr, rules}
+use Rattle.std.proofs.Common.{◌≡◌, ◌||◌, true, false, inr, rules}
 use Rattle.http_front_head.proofs.Surveys.{judged_bad, judged_whole}
 use Rattle.http_front_head.proofs.judging.judged.Goals as goal
 

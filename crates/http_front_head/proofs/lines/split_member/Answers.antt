@@ -1,4 +1,4 @@
-use Rattle.std.proofs.Common.{◌≡◌, ◌+◌, ◌∷◌, ◌==◌, ◌∙◌, ℕ, length, take, drop, sym, ap, arith, rules}
+use Rattle.std.proofs.Common.{◌+◌, ◌∷◌, ◌==◌, ◌∙◌, ℕ, length, take, sym, ap, arith, rules}
 use Rattle.std.proofs.lemmas.List.Sums.{position_or_len_is}
 use Rattle.std.proofs.lemmas.List.{take_rest}
 use Rattle.http_front_head.specs.Parts.{members}

@@ -1,6 +1,6 @@
 use Rattle.std.proofs.Common.{arith, sym, length-take}
 use Rattle.std.proofs.lemmas.List.{take_all}
-use Rattle.http_front_head.proofs.read.window.Goals as goal
+use Rattle.http_front_head.proofs.read.looked_at.Goals as goal
 
 pub slice_bounds-result-end : goal.slice_bounds-result-end
 slice_bounds-result-end c = omega (arith, length-take 16384 c.args.bytes.now, c.if-bytes-le-LONGEST_HEAD.false)
