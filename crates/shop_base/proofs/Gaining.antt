@@ -1,11 +1,11 @@
 -- What a pass's turns add to what it has seen.
 use Rattle.std.proofs.Common.{◌≡◌, ℕ, ◌==◌, Bool, true, false, if◌then◌else◌, List, [], ◌∷◌, ◌++◌, append_assoc}
-use Rattle.std.proofs.Common.{append-nil, refl, ap, ◌∙◌}
+use Rattle.std.proofs.Common.{append-nil, ◌+◌, zero-add, refl, sym, ap, ◌∙◌, arith}
 use Rattle.std.proofs.lemmas.Bool.{ne_eqb, eq-eqb}
 use Rattle.turn_lock.specs.Entries.{NoneOf, Lags}
 use Rattle.system_events.specs.declared.event.Entry.{Entry}
 use Rattle.system_events.specs.declared.event.Kept.{Kept}
-use Rattle.shop_base.specs.Passes.{entry, seat_of, own, Made, Gains}
+use Rattle.shop_base.specs.Passes.{entry, seat_of, own, begins_of, begins, Made, Gains}
 
 module _ {M T V P Q R F : Type 0} where
   -- the acts of two lists are those of the first and then those of the second
@@ -50,3 +50,34 @@ module _ {M T V P Q R F : Type 0} where
     is = second.is ∙ (ap (λ l. l ++ second.more) first.is ∙ append_assoc a first.more second.more);
     acts = own-append k first.more second.more ∙ (λ i. first.acts i ++ second.acts i);
   }
+
+  -- the requests begun in two lists are those of the first and those of the second
+  pub begins-append : (k : ℕ) (xs ys : List (Entry M T V P Q R F)) →
+      begins k (xs ++ ys) ≡ begins k xs + begins k ys
+  begins-append k [] ys = sym (zero-add (begins k ys))
+  begins-append k (x ∷ xs) ys =
+      let rest = begins-append k xs ys in
+      omega (arith, rest)
+
+  -- entries of other seats begin none of its own
+  pub begins-none : (k : ℕ) (es : List (Entry M T V P Q R F)) → NoneOf seat_of k es → begins k es ≡ 0
+  begins-none k [] none = refl
+  begins-none k (e ∷ es) none =
+      let here : (if e.seat == k then begins_of e.kept else 0) ≡ 0 =
+      ap (λ b. if b then begins_of e.kept else 0) (ne_eqb e.seat k none.0) in
+      let rest = begins-none k es none.1 in omega (arith, here, rest)
+
+  -- a turn without an event begins none
+  pub begins_lags : (k : ℕ) (before now : List (Entry M T V P Q R F)) → Lags seat_of k before now →
+      begins k now ≡ begins k before
+  begins_lags k before now lags =
+      let all = ap (begins k) lags.is ∙ begins-append k before lags.more in
+      let none = begins-none k lags.more lags.none in omega (arith, all, none)
+
+  -- an act of the seat counts where it begins a request
+  pub begins_push : (k : ℕ) (es : List (Entry M T V P Q R F)) (kept : Kept M T V P Q R F) →
+      begins k (es ++ entry k kept ∷ []) ≡ begins k es + begins_of kept
+  begins_push k es kept =
+      let both = begins-append k es (entry k kept ∷ []) in
+      let own_act : (if k == k then begins_of kept else 0) ≡ begins_of kept =
+      ap (λ b. if b then begins_of kept else 0) (eq-eqb k k refl) in omega (arith, both, own_act)

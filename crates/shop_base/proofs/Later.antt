@@ -157,6 +157,7 @@ module _ {M T V P Q R F : Type 0} (f : Facts T V P Q R F) where
     pub generation : now.counts.generation ≡ before.counts.generation
     pub table : (task : T) → is_in f task before.table ≡ true → is_in f task now.table ≡ true
 
+  -- while a seat runs a request, what it has seen of the program and the table stays true
   pub lags_steady : SameIsEqual f → (n k : ℕ) (seen log : List (Entry M T V P Q R F)) (place : ℕ) →
       IsLegal f n seen → IsLegal f n log → Lags seat_of k seen log →
       (seat_row (after f n seen).seats k).running ≡ Some place → Steady (after f n seen) (after f n log)

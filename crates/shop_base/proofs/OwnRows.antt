@@ -19,39 +19,11 @@ use Rattle.system_events.specs.declared.event.Kept.TheVariants.{Resume, Define, 
 use Rattle.system_events.specs.State.{purpose_of}
 use Rattle.system_events.specs.Steps.{seats_after}
 use Rattle.shop_base.specs.Rows.{seat_row, is_exclusive}
+use Rattle.shop_base.specs.Acts.{list_of, next_row}
 
 -- the row with the lock's row and the places
 abbrev pub row_parts : Row → Marks → SystemRow
 row_parts r m = record { lock = r; running = m.running; section = m.section }
-
--- the list with which a seat of this row releases
-abbrev pub list_of : SystemRow → ℕ
-list_of r = purpose_list (if is_some r.running then Load else Unload)
-
-module _ {M T V P Q R F : Type 0} where
-  -- The row after an act that is entered at this place. The test says whether another seat goes first at a release.
-  abbrev pub next_row : Bool → ℕ → SystemRow → Kept M T V P Q R F → SystemRow
-  next_row first place r Share = record r { lock = with_share r.lock }
-  next_row first place r Unshare = record r { lock = without_share r.lock }
-  next_row first place r Yield = record r { lock = yielded 1 r.lock }
-  next_row first place r Retake = record r { lock = restored r.lock }
-  next_row first place r (Seek want) = record {
-    lock = seeking (purpose_bit (purpose_of want)) (purpose_list (purpose_of want)) r.lock;
-    running = r.running;
-    section = Some place;
-  }
-  next_row first place r (Take want) =
-      if is_calm r.lock.phase then record r { section = Some place } else record r { lock = restored r.lock }
-  next_row first place r Release = record {
-    lock = if first then releasing (list_of r) r.lock else r.lock;
-    running = r.running;
-    section = None;
-  }
-  next_row first place r Resume = record r { lock = restored r.lock }
-  next_row first place r (Begin request) = record r { running = Some place }
-  next_row first place r (End reply) = record r { running = None }
-  next_row first place r (Refuse Memory) = record r { running = None }
-  next_row first place r _ = r
 
 -- a choice, seen through a function
 by_choice : {A B : Type 0} (b : Bool) (g : A → B) (x y : A) (x' y' : B) → g x ≡ x' → g y ≡ y' →

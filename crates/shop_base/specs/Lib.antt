@@ -1,3 +1,4 @@
 pub mod Rows
+pub mod Acts
 pub mod Passes
 pub mod Mine

@@ -1,9 +1,10 @@
 -- What contracts see of a pass, and what its turns do.
-use Rattle.std.specs.Prelude.{◌≡◌, ℕ, ◌==◌, if◌then◌else◌, List, [], ◌∷◌, ◌++◌, Option}
+use Rattle.std.specs.Prelude.{◌≡◌, ℕ, ◌+◌, ◌==◌, if◌then◌else◌, List, [], ◌∷◌, ◌++◌, Option}
 use Rattle.turn_lock.specs.Entries.{NoneOf}
 use Rattle.turn_lock.specs.Tickets.{LockId}
 use Rattle.system_events.specs.declared.event.Entry.{Entry}
 use Rattle.system_events.specs.declared.event.Kept.{Kept}
+use Rattle.system_events.specs.declared.event.Kept.TheVariants.{Begin}
 use Rattle.system_events.specs.Facts.{Facts}
 use Rattle.system_events.specs.State.{State}
 use Rattle.system_events.specs.Legal.{after, IsLegal}
@@ -41,6 +42,16 @@ module _ {M T V P Q R F : Type 0} where
   abbrev pub own : ℕ → List (Entry M T V P Q R F) → List (Kept M T V P Q R F)
   own k [] = []
   own k (e ∷ es) = if e.seat == k then (e.kept ∷ own k es) else own k es
+
+  -- an act that begins a request counts
+  abbrev pub begins_of : Kept M T V P Q R F → ℕ
+  begins_of (Begin request) = 1
+  begins_of _ = 0
+
+  -- how many requests a seat has begun
+  abbrev pub begins : ℕ → List (Entry M T V P Q R F) → ℕ
+  begins k [] = 0
+  begins k (e ∷ es) = (if e.seat == k then begins_of e.kept else 0) + begins k es
 
   -- The same pass, with this row and this history seen. It seeks what it sought.
   abbrev pub moved : PassView M T V P Q R F → PassRow → List (Entry M T V P Q R F) → PassView M T V P Q R F

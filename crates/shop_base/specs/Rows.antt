@@ -1,5 +1,5 @@
 -- The rows of passes: a seat's row, and the room that is set aside for the seat.
-use Rattle.std.specs.Prelude.{◌≡◌, ℕ, Some, None, is_some, Bool, ◌&&◌}
+use Rattle.std.specs.Prelude.{◌≡◌, ℕ, Option, Some, None, is_some, Bool, ◌&&◌}
 use Rattle.share_lock.specs.declared.seat.Phase.TheVariants.{Calm, Seeking, Releasing}
 use Rattle.system_seats.specs.declared.table.SystemRow.{SystemRow}
 use Rattle.system_seats.specs.Seats.{Seats, row, mark, is_calm}
@@ -15,15 +15,19 @@ seat_row s k = record { lock = row s k; running = (mark s k).running; section = 
 abbrev pub is_exclusive : SystemRow → Bool
 is_exclusive r = is_calm r.lock.phase && is_some r.section
 
--- THE ROWS BETWEEN CALLS
+-- WHAT A SEAT DOES
+
+-- it shares, and runs a request or not
+abbrev pub calm_seat : Option ℕ → SystemRow
+calm_seat running = record { lock = sharing; running = running; section = None }
 
 -- it shares, and runs nothing
 abbrev pub sharing_seat : SystemRow
-sharing_seat = record { lock = sharing; running = None; section = None }
+sharing_seat = calm_seat None
 
 -- it runs the request whose Begin stands at this place
 abbrev pub running_seat : ℕ → SystemRow
-running_seat begun = record { lock = sharing; running = Some begun; section = None }
+running_seat begun = calm_seat (Some begun)
 
 -- it runs a request, and has put its share aside
 abbrev pub yielding_seat : ℕ → SystemRow
@@ -34,32 +38,51 @@ abbrev pub seeking_seat : ℕ → ℕ → SystemRow
 seeking_seat begun opened =
     record { lock = waiting (Some 0) 1 (Seeking 0); running = Some begun; section = Some opened }
 
+-- it runs nothing, and seeks an unload since the entry at this place
+abbrev pub seeking_unload_seat : ℕ → SystemRow
+seeking_unload_seat opened =
+    record { lock = waiting (Some 1) 3 (Seeking 1); running = None; section = Some opened }
+
+-- it is exclusive: for a load where it runs a request, else for an unload
+abbrev pub exclusive_seat : Option ℕ → ℕ → SystemRow
+exclusive_seat running opened = record { lock = sharing; running = running; section = Some opened }
+
 -- it runs a request, and is exclusive for a load
 abbrev pub loading_seat : ℕ → ℕ → SystemRow
-loading_seat begun opened = record { lock = sharing; running = Some begun; section = Some opened }
+loading_seat begun opened = exclusive_seat (Some begun) opened
+
+-- it runs nothing, and is exclusive for an unload
+abbrev pub unloading_seat : ℕ → SystemRow
+unloading_seat opened = exclusive_seat None opened
+
+-- the kinds of exclusion that a seat lets go first after a release: loads, and where it ran nothing unloads too
+abbrev pub list_released : Option ℕ → ℕ
+list_released None = 3
+list_released (Some begun) = 1
+
+-- it was exclusive, and waits for those that go first
+abbrev pub leaving_seat : Option ℕ → SystemRow
+leaving_seat running = record {
+  lock = waiting None (list_released running) (Releasing (list_released running));
+  running = running;
+  section = None;
+}
 
 -- it runs a request, and is calm and not exclusive
 abbrev pub IsRunning : SystemRow → Type 0
 IsRunning r = (begun : ℕ) × (r ≡ running_seat begun)
 
--- THE ROWS INSIDE A CALL
+-- it runs a request, and has put its share aside
+abbrev pub IsYielding : SystemRow → Type 0
+IsYielding r = (begun : ℕ) × (r ≡ yielding_seat begun)
 
--- it runs a request, and waits after the release of a load
-abbrev pub leaving_load_seat : ℕ → SystemRow
-leaving_load_seat begun = record { lock = waiting None 1 (Releasing 1); running = Some begun; section = None }
+-- it seeks a load
+abbrev pub IsSeeking : SystemRow → Type 0
+IsSeeking r = (begun : ℕ) × ((opened : ℕ) × (r ≡ seeking_seat begun opened))
 
--- it seeks an unload since the entry at this place
-abbrev pub seeking_unload_seat : ℕ → SystemRow
-seeking_unload_seat opened =
-    record { lock = waiting (Some 1) 3 (Seeking 1); running = None; section = Some opened }
-
--- it is exclusive for an unload
-abbrev pub unloading_seat : ℕ → SystemRow
-unloading_seat opened = record { lock = sharing; running = None; section = Some opened }
-
--- it waits after the release of an unload
-abbrev pub leaving_unload_seat : SystemRow
-leaving_unload_seat = record { lock = waiting None 3 (Releasing 3); running = None; section = None }
+-- it is exclusive for a load
+abbrev pub IsLoading : SystemRow → Type 0
+IsLoading r = (begun : ℕ) × ((opened : ℕ) × (r ≡ loading_seat begun opened))
 
 -- ROOM
 
