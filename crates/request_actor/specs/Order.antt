@@ -87,6 +87,16 @@ module _ {M T V P Q R F : Type 0} where
   IsFaultCause _ = Unit {0}
 
 module _ {M T V P Q R F E : Type 0} where
+  -- what an actor that was asked for nothing yet is given
+  abbrev pub FitsStart : Answered V E (Cause M T V P Q R F) → Type 0
+  FitsStart answer.Start = Unit {0}
+  FitsStart _ = ⊥
+
+  -- the answer of what can only be done
+  abbrev pub FitsDone : Answered V E (Cause M T V P Q R F) → Type 0
+  FitsDone answer.Done = Unit {0}
+  FitsDone _ = ⊥
+
   -- the answers of a check
   abbrev pub FitsCheck : Answered V E (Cause M T V P Q R F) → Type 0
   FitsCheck answer.Same = Unit {0}
@@ -122,11 +132,11 @@ module _ {M T V P Q R F E : Type 0} where
 module _ {M T V P Q R F W E : Type 0} where
   -- The answers of what was asked for last. All but the start, and but those above, are answered by Done alone.
   abbrev pub Fits : Stage Q T W (Cause M T V P Q R F) → Answered V E (Cause M T V P Q R F) → Type 0
-  Fits (stage.Fresh q) answered = answered ≡ answer.Start
+  Fits (stage.Fresh q) answered = FitsStart answered
   Fits (stage.Checks q) answered = FitsCheck answered
   Fits (stage.Reloads q) answered = FitsReload answered
   Fits (stage.Releases next) answered = FitsRelease answered
   Fits (stage.Looks task waiting) answered = FitsLook answered
   Fits (stage.Loads task waiting) answered = FitsLoad answered
   Fits stage.Over answered = ⊥
-  Fits _ answered = answered ≡ answer.Done
+  Fits _ answered = FitsDone answered
