@@ -29,6 +29,7 @@ use Rattle.system_seats.specs.declared.guard.Guard.TheVariants.{InTable}
 use Rattle.system_seats.specs.Guards.{◌when◌else◌}
 use Rattle.system_events.specs.Guards.{guard_of, ◌orElse◌}
 use Rattle.system_core.proofs.Finding.{is_in_lookup}
+use Rattle.system_laws.proofs.Table.{same_self}
 
 -- NEEDS
 
@@ -42,9 +43,6 @@ module _ {T V P Q R F E O : Type 0} (f : Facts T V P Q R F) (p : P) (r : Rules T
 -- THE TABLE
 
 module _ {T V P Q R F : Type 0} (f : Facts T V P Q R F) (equal : SameIsEqual f) where
-  same_self : (task : T) → f.same_task task task ≡ true
-  same_self task = (equal task task).1 refl
-
   not_same : (a b : T) → (b ≡ a → ⊥) → f.same_task a b ≡ false
   not_same a b other = by (f.same_task a b) refl
     where
@@ -55,7 +53,7 @@ module _ {T V P Q R F : Type 0} (f : Facts T V P Q R F) (equal : SameIsEqual f) 
   -- a new task has its value
   lookup_new : (task : T) (value : V) (table : List (T × V)) → lookup f task table ≡ None →
       lookup f task (table ++ (task, value) ∷ []) ≡ Some value
-  lookup_new task value [] none = ap (λ b. if b then Some value else None) (same_self task)
+  lookup_new task value [] none = ap (λ b. if b then Some value else None) (same_self f equal task)
   lookup_new task value (pair ∷ pairs) none = by (f.same_task pair.0 task) refl (lookup_new task value pairs)
     where
       by : (b : Bool) → f.same_task pair.0 task ≡ b →

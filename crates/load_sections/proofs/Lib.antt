@@ -1,2 +1,4 @@
-mod Defining
+pub mod Defining
+pub mod Tables
 mod Staying
+mod Opening

@@ -23,6 +23,12 @@ module _ {M T V P Q R F : Type 0} (f : Facts T V P Q R F) where
   abbrev pub table_at : State M T V P Q R F → T → Option V
   table_at s task = lookup f task s.table
 
+module _ {M T V P Q R F : Type 0} where
+  -- the seat is exclusive for a load of the task
+  pub record IsOpenFor (s : State M T V P Q R F) (seat : ℕ) (sought : T) : Type 0 where
+    pub section : section_want s seat ≡ Some (Load-Want sought)
+    pub passes : define_guard s.seats seat ≡ None
+
 module _ {M T V P Q R F E O G W N : Type 0} (f : Facts T V P Q R F) (r : Rules T V E O) (m : Runs T V E O G W N)
     (sought : T) (at_first : T → Option V) where
   -- The seat is exclusive for a load of the sought task. Since its section opened over the table `at_first` its loader

@@ -1,5 +1,5 @@
 -- The order of a request's operations.
-use Rattle.std.specs.Prelude.{◌≡◌}
+use Rattle.std.specs.Prelude.{◌≡◌, Option, Some, None}
 use Rattle.by_need.specs.Asking.{Asking, Gives, Ask}
 use Rattle.system_events.specs.declared.event.Cause.{Cause}
 use Rattle.system_events.specs.declared.event.Cause.TheVariants.{Memory}
@@ -79,6 +79,16 @@ module _ {M T V P Q R F G W E : Type 0} (talks : Talks T V P Q R E G W) where
   Goes p stage.Refuses answered asked new = (asked ≡ op.Unshare) × (new ≡ stage.Unshares)
   Goes p stage.Unshares answered asked new = (asked ≡ op.Finished) × (new ≡ stage.Over)
   Goes p stage.Over answered asked new = ⊥
+
+-- the request that is to begin, at a stage before its Begin was answered
+abbrev pub request_at_stage : {Q T W C : Type 0} → Stage Q T W C → Option Q
+request_at_stage (stage.Fresh request) = Some request
+request_at_stage (stage.Shares request) = Some request
+request_at_stage (stage.Checks request) = Some request
+request_at_stage (stage.Takes request) = Some request
+request_at_stage (stage.Reloads request) = Some request
+request_at_stage (stage.Begins request) = Some request
+request_at_stage _ = None
 
 module _ {M T V P Q R F : Type 0} where
   -- a fault of a check or of a reload is never want of memory

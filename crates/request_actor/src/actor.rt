@@ -1,7 +1,7 @@
 //! The order of the operations of one request.
-ghost use Rattle.std.specs.Prelude.{◌≡◌, ◌↔◌, IfOk, IsTrue};
+ghost use Rattle.std.specs.Prelude.{◌≡◌, ◌↔◌, IfOk, IsTrue, option_map};
 ghost use Rattle.request_actor.specs.Order.{Goes, Fits, FitsCheck, AfterCheck, AfterRelease, GoesOn, Runs, AfterLook};
-ghost use Rattle.request_actor.specs.Order.{AfterLoad, after_reload};
+ghost use Rattle.request_actor.specs.Order.{AfterLoad, after_reload, request_at_stage};
 ghost use Rattle.request_actor.specs.Answers.{KeepsRight};
 
 use crate::fitting::{
@@ -110,6 +110,21 @@ impl<M: Requests> Actor<M> {
             Stage::Ends | Stage::Refuses => Ok(self.ask(Op::Unshare, Stage::Unshares)),
             Stage::Unshares => Ok(self.ask(Op::Finished, Stage::Over)),
             Stage::Over => unreachable!(),
+        }
+    }
+
+    /// The request, where it is to begin still; not in an unload section's release.
+    pub fn request(&self) -> Option<&M::Request>
+        ensures { option_map (λ request. request.now) result ≡ request_at_stage self.now }
+    {
+        match &self.stage {
+            Stage::Fresh(request) => Some(request),
+            Stage::Shares(request) => Some(request),
+            Stage::Checks(request) => Some(request),
+            Stage::Takes(request) => Some(request),
+            Stage::Reloads(request) => Some(request),
+            Stage::Begins(request) => Some(request),
+            _ => None,
         }
     }
 

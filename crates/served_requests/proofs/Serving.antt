@@ -15,11 +15,11 @@ use Rattle.system_events.specs.Facts.{Facts, SameIsEqual}
 use Rattle.system_events.specs.State.{State, is_in, request_at, entry_request, running_request}
 use Rattle.system_events.specs.Steps.{effect}
 use Rattle.system_events.specs.Legal.{IsAfter, IsStep}
-use Rattle.system_laws.specs.Lawful.{IsTable, AllKnown}
-use Rattle.system_laws.proofs.Keeps.{keeps_after}
+use Rattle.system_laws.specs.Lawful.{AllKnown}
 use Rattle.system_laws.proofs.Lists.{get_new}
 use Rattle.system_core.specs.Tables.{lookup}
 use Rattle.system_core.proofs.Finding.{is_in_lookup}
+use Rattle.load_sections.proofs.Tables.{tidy_of, table_of_system, known_of_lookup}
 use Rattle.request_actor.specs.Talks.{Talks, AreOf}
 use Rattle.request_actor.specs.Order.{Goes}
 use Rattle.request_actor.specs.Answers.{IsRight, Holds, found_after}
@@ -37,16 +37,6 @@ none_in : {T : Type 0} (task : T) → Contains [] task → ⊥
 none_in task (k, below, here) = omega arith
 
 module _ {M T V P Q R F : Type 0} (f : Facts T V P Q R F) (equal : SameIsEqual f) where
-  -- the seats of a system are in order
-  tidy_of : (seats : ℕ) (s : State M T V P Q R F) → IsAfter f seats s → IsTidy s.seats
-  tidy_of seats s is = subst (λ (x : State M T V P Q R F). IsTidy x.seats) (sym is.state)
-      (keeps_after f equal seats s.history is.legal).tidy
-
-  -- its table is known
-  table_of_system : (seats : ℕ) (s : State M T V P Q R F) → IsAfter f seats s → IsTable f s.counts.program s.table
-  table_of_system seats s is = subst (λ (x : State M T V P Q R F). IsTable f x.counts.program x.table) (sym is.state)
-      (keeps_after f equal seats s.history is.legal).table
-
   -- a seat that begins a request runs it
   begin_runs : (s : State M T V P Q R F) (k : ℕ) (q : Q) → IsTidy s.seats → k < length s.seats.lock.rows →
       running_request (effect f s k (Begin q)) k ≡ Some q
@@ -57,24 +47,6 @@ module _ {M T V P Q R F : Type 0} (f : Facts T V P Q R F) (equal : SameIsEqual f
       (subst (λ n. k < n) (sym tidy.even) below)) in
       ap (λ at. request_at (s.history ++ (record { seat = k; kept = Begin q }) ∷ []) at) here
       ∙ ap entry_request (get_new s.history (record { seat = k; kept = Begin q }))
-
-module _ {T V P Q R F : Type 0} (f : Facts T V P Q R F) (equal : SameIsEqual f) where
-  -- a value that the table has is known
-  known_of_lookup : (program : P) (table : List (T × V)) (task : T) (value : V) → AllKnown f program table →
-      lookup f task table ≡ Some value → f.known program task ≡ Some value
-  known_of_lookup program [] task value known is = absurd (none-some value is)
-  known_of_lookup program (pair ∷ pairs) task value known is =
-      by (f.same_task pair.0 task) refl (known_of_lookup program pairs task value known.1)
-    where
-      by : (b : Bool) → f.same_task pair.0 task ≡ b →
-          (lookup f task pairs ≡ Some value → f.known program task ≡ Some value) →
-          f.known program task ≡ Some value
-      by true same later =
-          let value_is : pair.1 ≡ value = same_Some _ _
-          (sym (ap (λ b. if b then Some pair.1 else lookup f task pairs) same) ∙ is) in
-          let task_is : pair.0 ≡ task = (equal pair.0 task).0 same in
-          ap (f.known program) (sym task_is) ∙ (known.0 ∙ ap (λ v. Some v) value_is)
-      by false same later = later (sym (ap (λ b. if b then Some pair.1 else lookup f task pairs) same) ∙ is)
 
 module _ {M T V P Q R F G W E : Type 0} (f : Facts T V P Q R F) (equal : SameIsEqual f)
     (talks : Talks T V P Q R E G W) where
