@@ -1,5 +1,5 @@
 -- The facts and the runs fit one another.
-use Rattle.std.proofs.Common.{◌≡◌, ◌<◌, ℕ, zero, suc, length, refl, sym, arith, lit<}
+use Rattle.std.proofs.Common.{◌≡◌, ℕ, refl, sym, lit<}
 use Rattle.std.specs.Prelude.{Contains}
 use Rattle.std.proofs.lemmas.Bool.{true≢false}
 use Rattle.system_events.specs.Facts.{SameIsEqual}
