@@ -1,4 +1,4 @@
 pub mod Defining
 pub mod Tables
-mod Staying
-mod Opening
+pub mod Staying
+pub mod Opening

@@ -1,5 +1,5 @@
 -- How a load section opens.
-use Rattle.std.proofs.Common.{◌≡◌, ◌<◌, ℕ, List, [], ◌∷◌, ◌++◌, length, Option, Some, None, Bool, true, false, refl}
+use Rattle.std.proofs.Common.{◌≡◌, ◌<◌, ℕ, [], ◌∷◌, ◌++◌, length, Option, Some, None, Bool, true, false}
 use Rattle.std.proofs.Common.{sym, ap, ◌∙◌, subst, arith, inl, inr, set, get_or-set_same}
 use Rattle.std.specs.Prelude.{is_some, not, ◌&&◌, ◌==◌, if◌then◌else◌, Contains}
 use Rattle.std.proofs.lemmas.Bool.{true≢false, not-false, and_parts, cond_both}
@@ -12,14 +12,13 @@ use Rattle.by_need_loader.proofs.Goes.{begins}
 use Rattle.share_lock.specs.declared.seat.Phase.{Phase}
 use Rattle.share_lock.specs.declared.seat.Phase.TheVariants.{Calm, Seeking, Releasing}
 use Rattle.share_lock.specs.Rows.{busy_exclusive}
-use Rattle.system_seats.specs.declared.guard.Guard.{Guard}
 use Rattle.system_seats.specs.declared.guard.Guard.TheVariants.{NotLoading, BusyExclusive, WrongWant}
 use Rattle.system_seats.specs.declared.guard.Purpose.{Purpose}
 use Rattle.system_seats.specs.declared.guard.Purpose.TheVariants as purpose
 use Rattle.system_seats.specs.declared.guard.Marks.{Marks}
 use Rattle.system_seats.specs.Seats.{Seats, no_marks, mark, mark_at, row, runs_at, is_owner, is_calm}
 use Rattle.system_seats.specs.Guards.{◌when◌else◌, own_seek, take_guard, define_guard, seeks_this}
-use Rattle.system_seats.specs.Effects.{after_take, with_section}
+use Rattle.system_seats.specs.Effects.{with_section}
 use Rattle.system_seats.specs.Shapes.{IsTidy}
 use Rattle.system_seats.proofs.From.{guard_false}
 use Rattle.system_seats.proofs.Leaves.{take-at}
@@ -29,7 +28,6 @@ use Rattle.system_events.specs.declared.event.Want.TheVariants.{Load, Unload}
 use Rattle.system_events.specs.declared.event.Kept.TheVariants.{Take}
 use Rattle.system_events.specs.Facts.{Facts, SameIsEqual}
 use Rattle.system_events.specs.State.{State, want_at, entry_want, section_want, in_table, is_wanted, is_that}
-use Rattle.system_events.specs.Steps.{effect}
 use Rattle.system_events.specs.Legal.{IsAfter, IsStep}
 use Rattle.system_laws.proofs.Lists.{get_new}
 use Rattle.load_sections.specs.Theories.{IsOfTheory}

@@ -1,15 +1,12 @@
 -- A request from its Begin to its End.
-use Rattle.std.proofs.Common.{◌≡◌, ◌<◌, ℕ, zero, suc, List, [], ◌∷◌, ◌++◌, length, Option, Some, None, Bool, true}
-use Rattle.std.proofs.Common.{false, refl, sym, ap, ◌∙◌, subst, arith, inl, inr, get_or-set_same}
-use Rattle.std.specs.Prelude.{is_some, Contains, if◌then◌else◌, slice_get}
-use Rattle.std.proofs.lemmas.Bool.{true≢false}
-use Rattle.std.proofs.lemmas.Option.{none-some, same_Some}
+use Rattle.std.proofs.Common.{◌≡◌, ◌<◌, ℕ, List, [], ◌∷◌, ◌++◌, length, Some, true}
+use Rattle.std.proofs.Common.{refl, sym, ap, ◌∙◌, subst, arith, inl, inr, get_or-set_same}
+use Rattle.std.specs.Prelude.{is_some, Contains}
 use Rattle.std.proofs.lemmas.List.Elements.{Contains-append_cases}
 use Rattle.system_seats.specs.declared.guard.Marks.{Marks}
 use Rattle.system_seats.specs.Seats.{mark, no_marks}
 use Rattle.system_seats.specs.Shapes.{IsTidy}
 use Rattle.system_events.specs.declared.event.Cause.{Cause}
-use Rattle.system_events.specs.declared.event.Entry.{Entry}
 use Rattle.system_events.specs.declared.event.Kept.TheVariants.{Begin}
 use Rattle.system_events.specs.Facts.{Facts, SameIsEqual}
 use Rattle.system_events.specs.State.{State, is_in, request_at, entry_request, running_request}
@@ -17,7 +14,6 @@ use Rattle.system_events.specs.Steps.{effect}
 use Rattle.system_events.specs.Legal.{IsAfter, IsStep}
 use Rattle.system_laws.specs.Lawful.{AllKnown}
 use Rattle.system_laws.proofs.Lists.{get_new}
-use Rattle.system_core.specs.Tables.{lookup}
 use Rattle.system_core.proofs.Finding.{is_in_lookup}
 use Rattle.load_sections.proofs.Tables.{tidy_of, table_of_system, known_of_lookup}
 use Rattle.request_actor.specs.Talks.{Talks, AreOf}
