@@ -1,14 +1,14 @@
 -- What a load section defines.
 use Rattle.std.proofs.Common.{◌≡◌, List, [], ◌∷◌, ◌++◌, Option, Some, None, Bool, true, false, refl, sym}
 use Rattle.std.proofs.Common.{ap, ◌∙◌, subst, zero, suc, ℕ}
-use Rattle.std.specs.Prelude.{is_some, Contains, if◌then◌else◌, slice_get}
+use Rattle.std.specs.Prelude.{is_some, if◌then◌else◌}
 use Rattle.std.proofs.lemmas.Bool.{true≢false}
 use Rattle.std.proofs.lemmas.Option.{none-some}
 use Rattle.by_need.specs.Laws.{Lawful}
 use Rattle.by_need.specs.Load.{Defines}
 use Rattle.by_need.specs.Rounds.{Rules}
 use Rattle.by_need.specs.Rounds as rounds
-use Rattle.by_need_loader.specs.Progress.{History, Progress, Tells}
+use Rattle.by_need_loader.specs.Progress.{Progress, Tells}
 use Rattle.by_need_loader.specs.Runs.{Runs}
 use Rattle.by_need_loader.specs.declared.loader.LoadStep.TheVariants as step
 use Rattle.system_seats.specs.Seats.{mark}
@@ -20,6 +20,7 @@ use Rattle.system_events.specs.declared.event.Kept.TheVariants.{Define}
 use Rattle.system_events.specs.Facts.{Facts, Needs, itself, through, SameIsEqual}
 use Rattle.system_events.specs.State.{State, is_in, want_at, section_want}
 use Rattle.system_events.specs.Steps.{effect, pair_of, IsNeeded}
+use Rattle.system_events.specs.Legal.{IsStep}
 use Rattle.system_core.specs.Tables.{lookup}
 use Rattle.load_sections.specs.Theories.{IsOfTheory}
 use Rattle.load_sections.specs.Sections.{table_at, IsLoading, IsMade}
@@ -29,6 +30,7 @@ use Rattle.system_seats.specs.declared.guard.Guard.TheVariants.{InTable}
 use Rattle.system_seats.specs.Guards.{◌when◌else◌}
 use Rattle.system_events.specs.Guards.{guard_of, ◌orElse◌}
 use Rattle.system_core.proofs.Finding.{is_in_lookup}
+use Rattle.system_laws.proofs.Table.{same_self}
 
 -- NEEDS
 
@@ -42,9 +44,6 @@ module _ {T V P Q R F E O : Type 0} (f : Facts T V P Q R F) (p : P) (r : Rules T
 -- THE TABLE
 
 module _ {T V P Q R F : Type 0} (f : Facts T V P Q R F) (equal : SameIsEqual f) where
-  same_self : (task : T) → f.same_task task task ≡ true
-  same_self task = (equal task task).1 refl
-
   not_same : (a b : T) → (b ≡ a → ⊥) → f.same_task a b ≡ false
   not_same a b other = by (f.same_task a b) refl
     where
@@ -55,7 +54,7 @@ module _ {T V P Q R F : Type 0} (f : Facts T V P Q R F) (equal : SameIsEqual f) 
   -- a new task has its value
   lookup_new : (task : T) (value : V) (table : List (T × V)) → lookup f task table ≡ None →
       lookup f task (table ++ (task, value) ∷ []) ≡ Some value
-  lookup_new task value [] none = ap (λ b. if b then Some value else None) (same_self task)
+  lookup_new task value [] none = ap (λ b. if b then Some value else None) (same_self f equal task)
   lookup_new task value (pair ∷ pairs) none = by (f.same_task pair.0 task) refl (lookup_new task value pairs)
     where
       by : (b : Bool) → f.same_task pair.0 task ≡ b →
@@ -133,18 +132,20 @@ module _ {M T V P Q R F E O G W N : Type 0} (f : Facts T V P Q R F) (equal : Sam
   -- a define that was entered is what the section made
   pub is_defined : (old s new : State M T V P Q R F) (k seat : ℕ) (loader : Progress T G W N) (made : List (T × V))
       (bound : ℕ) (told task : T) (value : V) → s ≡ old → seat ≡ k → told ≡ task →
-      new ≡ effect f s seat (Define task) → section_want s k ≡ Some (Load sought) → define_guard s.seats k ≡ None →
+      IsStep f s (record { seat = seat; kept = Define task }) new → section_want s k ≡ Some (Load sought) →
+      define_guard s.seats k ≡ None →
       f.known s.counts.program task ≡ Some value →
       Tells r m (record { wanted = sought; at_first = at_first; made = made; table = table_at f s }) bound loader
       (step.Define task value) →
       IsMade f r m sought at_first old new k loader (Defined told)
   is_defined old s new k seat loader made bound told task value same here copied entered section passes known tells =
-      let at_seat : new ≡ effect f s k (Define task) = entered ∙ ap (λ j. effect f s j (Define task)) here in
+      let at_seat : IsStep f s (record { seat = k; kept = Define task }) new =
+      subst (λ (j : ℕ). IsStep f s (record { seat = j; kept = Define task }) new) here entered in
       let goes : IsLoading f r m sought at_first (effect f s k (Define task)) k loader =
       loading_after s k loader made bound task value section passes known tells in
       let made_here : IsMade f r m sought at_first s new k loader (Defined task) = (
         at_seat,
-        subst (λ (x : State M T V P Q R F). IsLoading f r m sought at_first x k loader) (sym at_seat) goes,
+        subst (λ (x : State M T V P Q R F). IsLoading f r m sought at_first x k loader) (sym at_seat.is) goes,
       ) in
       let made_told : IsMade f r m sought at_first s new k loader (Defined told) =
       subst (λ (t : T). IsMade f r m sought at_first s new k loader (Defined t)) (sym copied) made_here in

@@ -1,2 +1,4 @@
-mod Defining
-mod Staying
+pub mod Defining
+pub mod Tables
+pub mod Staying
+pub mod Opening

@@ -1,8 +1,8 @@
 -- A load section stays, whatever the other seats do.
 use Rattle.std.proofs.Common.{◌≡◌, ◌≢◌, ℕ, List, ◌∷◌, [], ◌++◌, Option, Some, None, Bool, true, false, refl}
 use Rattle.std.proofs.Common.{sym, ap, ◌∙◌, subst}
-use Rattle.std.specs.Prelude.{◌&&◌, ◌||◌, ◌==◌, not, is_some, if◌then◌else◌}
-use Rattle.std.proofs.lemmas.Bool.{not-false, and_parts, or_parts, true≢false, cond_both}
+use Rattle.std.specs.Prelude.{◌&&◌, not, is_some, if◌then◌else◌}
+use Rattle.std.proofs.lemmas.Bool.{not-false, and_parts, or_parts, true≢false}
 use Rattle.std.proofs.lemmas.Bool.Decides.{nat_tests}
 use Rattle.std.proofs.Common.{arith}
 use Rattle.by_need.specs.Rounds.{Rules}
@@ -11,30 +11,30 @@ use Rattle.by_need_loader.specs.Progress.{Progress}
 use Rattle.by_need_loader.specs.Runs.{Runs}
 use Rattle.share_lock.specs.declared.seat.Row.{Row}
 use Rattle.share_lock.specs.Rows.{holds_shares, another_exclusive, busy_exclusive}
-use Rattle.share_lock.specs.Lock.{Lock, owns}
+use Rattle.share_lock.specs.Lock.{owns}
 use Rattle.system_seats.specs.declared.guard.Guard.{Guard}
 use Rattle.system_seats.specs.declared.guard.Guard.TheVariants.{NotLoading, BusyExclusive, NoShare, Exclusive}
 use Rattle.system_seats.specs.declared.guard.Purpose.{Purpose}
 use Rattle.system_seats.specs.declared.guard.Purpose.TheVariants as purpose
 use Rattle.system_seats.specs.declared.guard.Marks.{Marks}
 use Rattle.system_seats.specs.Seats.{Seats, mark, row, runs_at, is_owner, is_calm, purpose_bit}
-use Rattle.system_seats.specs.Guards.{◌when◌else◌, own_want, own_seek, own_take, define_guard, seeks_this}
+use Rattle.system_seats.specs.Guards.{◌when◌else◌, own_want, own_seek, own_take}
 use Rattle.system_seats.proofs.From.{guard_false}
 use Rattle.system_events.specs.declared.event.Cause.TheVariants.{Memory}
 use Rattle.system_events.specs.declared.event.Entry.{Entry}
 use Rattle.system_events.specs.declared.event.Kept.{Kept}
-use Rattle.system_events.specs.declared.event.Kept.TheVariants.{Share, Unshare, Yield, Retake, Seek, Take, Release}
-use Rattle.system_events.specs.declared.event.Kept.TheVariants.{Resume, Define, Reload, Begin, End, Refuse}
+use Rattle.system_events.specs.declared.event.Kept.TheVariants.{Take, Release}
+use Rattle.system_events.specs.declared.event.Kept.TheVariants.{Define, Reload, Refuse}
 use Rattle.system_events.specs.declared.event.Want.TheVariants.{Load as Load-Want}
 use Rattle.system_events.specs.Facts.{Facts}
-use Rattle.system_events.specs.State.{State, next_place, section_want, want_at, purpose_of, in_table, is_wanted}
+use Rattle.system_events.specs.State.{State, next_place, want_at, purpose_of, in_table, is_wanted}
 use Rattle.system_events.specs.Guards.{guard_of}
-use Rattle.system_events.specs.Steps.{effect, seats_after, table_after}
+use Rattle.system_events.specs.Steps.{seats_after, table_after}
 use Rattle.system_events.specs.Legal.{IsStep}
 use Rattle.system_laws.proofs.Others.{marks_stay}
 use Rattle.system_laws.proofs.Tidy.{first_none}
 use Rattle.system_core.specs.Tables.{lookup}
-use Rattle.load_sections.specs.Sections.{table_at, IsLoading}
+use Rattle.load_sections.specs.Sections.{IsLoading}
 use Rattle.load_sections.proofs.Defining.{want_grows}
 
 -- GUARDS

@@ -13,7 +13,7 @@ use Rattle.system_events.specs.declared.event.Want.TheVariants.{Load as Load-Wan
 use Rattle.system_events.specs.declared.event.Kept.TheVariants.{Define}
 use Rattle.system_events.specs.Facts.{Facts}
 use Rattle.system_events.specs.State.{State, section_want}
-use Rattle.system_events.specs.Steps.{effect}
+use Rattle.system_events.specs.Legal.{IsStep}
 use Rattle.system_core.specs.Tables.{lookup}
 use Rattle.load_sections.specs.declared.section.Made.{Made}
 use Rattle.load_sections.specs.declared.section.Made.TheVariants.{Defined, Loaded, Failed}
@@ -22,6 +22,12 @@ module _ {M T V P Q R F : Type 0} (f : Facts T V P Q R F) where
   -- the table as a function: the value of each task that it has
   abbrev pub table_at : State M T V P Q R F → T → Option V
   table_at s task = lookup f task s.table
+
+module _ {M T V P Q R F : Type 0} where
+  -- the seat is exclusive for a load of the task
+  pub record IsOpenFor (s : State M T V P Q R F) (seat : ℕ) (sought : T) : Type 0 where
+    pub section : section_want s seat ≡ Some (Load-Want sought)
+    pub passes : define_guard s.seats seat ≡ None
 
 module _ {M T V P Q R F E O G W N : Type 0} (f : Facts T V P Q R F) (r : Rules T V E O) (m : Runs T V E O G W N)
     (sought : T) (at_first : T → Option V) where
@@ -38,12 +44,12 @@ module _ {M T V P Q R F E O G W N : Type 0} (f : Facts T V P Q R F) (r : Rules T
     pub made : List (T × V)
     pub order : Load r at_first sought made (table_at f s) done
 
-  -- What comes of a call. Defined: a task that is known was defined, and the section goes on. Loaded: the sought task
-  -- is known and in the table. Failed: it stays unknown, and this is its blame. At both ends the state stays, and the
-  -- section has defined what a load over the table `at_first` defines.
+  -- What comes of a call. Defined: a step of the seat defined this task, and the section goes on. Loaded: the sought
+  -- task is known and in the table. Failed: it stays unknown, and this is its blame. At both ends the state stays, and
+  -- the section has defined what a load over the table `at_first` defines.
   abbrev pub IsMade : State M T V P Q R F → State M T V P Q R F → ℕ → Progress T G W N → Made T E O → Type 0
   IsMade old new seat loader (Defined task) =
-      (new ≡ effect f old seat (Define task)) × IsLoading new seat loader
+      IsStep f old (record { seat = seat; kept = Define task }) new × IsLoading new seat loader
   IsMade old new seat loader Loaded =
       (new ≡ old) × HasLoaded old true
       × ((value : V) × ((f.known old.counts.program sought ≡ Some value) × (table_at f old sought ≡ Some value)))

@@ -4,7 +4,8 @@
 //! `Failed`. Each call but the last defines one task, by need of the sought one, so that its condition as an event
 //! holds.
 //!
-//! What it rests on stays whatever the other seats do ([`load_sections_stay`]).
+//! A Take of a load opens such a section ([`taken_loads_are_open`]), on which a loader begins
+//! ([`open_sections_are_loading`]), and what it rests on stays whatever the other seats do ([`load_sections_stay`]).
 //!
 //! | Call | Answers, where `a` asks for `b` and the table is empty |
 //! |---|---|
@@ -17,5 +18,5 @@
 mod laws;
 mod section;
 
-pub use laws::load_sections_stay;
+pub use laws::{load_sections_stay, open_sections_are_loading, taken_loads_are_open};
 pub use section::{LoadSection, Made};

@@ -3,7 +3,8 @@ ghost use Rattle.std.specs.Prelude.{◌≡◌, ◌<◌, ℕ, length, Option, Som
 ghost use Rattle.by_need_loader.specs.Progress.{begun};
 ghost use Rattle.system_seats.specs.Guards.{define_guard};
 ghost use Rattle.system_events.specs.declared.event.Kept.{Kept};
-ghost use Rattle.system_events.specs.Steps.{effect, IsNeeded};
+ghost use Rattle.system_events.specs.Steps.{IsNeeded};
+ghost use Rattle.system_events.specs.Legal.{IsStep};
 ghost use Rattle.load_sections.specs.Theories.{IsOfTheory};
 ghost use Rattle.load_sections.specs.Sections.{table_at, IsLoading, IsMade};
 
@@ -89,7 +90,8 @@ fn define<M: Matter>(
     requires lacks { table_at M.facts system.old.state task ≡ None }
     requires needed { IsNeeded M.facts system.old.state seat task }
     requires known { M.facts.known system.old.state.counts.program task ≡ Some value }
-    ensures { IfOk result (λ _. system.new.state ≡ effect M.facts system.old.state seat (Kept.Define task)) }
+    ensures { IfOk result
+        (λ _. IsStep M.facts system.old.state (record { seat = seat; kept = Kept.Define task }) system.new.state) }
 {
     system.reserve(1, 1)?;
     let event = Event {

@@ -26,7 +26,7 @@ stands_in : {T : Type 0} (found more : List T) (task : T) → Contains (found ++
 stands_in found more task = Contains-append_right found (task ∷ more) task (0, omega arith, refl)
 
 -- a list of one task has no other
-is_only : {T : Type 0} (task other : T) → Contains (task ∷ []) other → task ≡ other
+pub is_only : {T : Type 0} (task other : T) → Contains (task ∷ []) other → task ≡ other
 is_only task other (zero, below, here) = here
 is_only task other (suc k, below, here) = absurd (omega arith)
 

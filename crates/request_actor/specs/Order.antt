@@ -1,5 +1,5 @@
 -- The order of a request's operations.
-use Rattle.std.specs.Prelude.{◌≡◌}
+use Rattle.std.specs.Prelude.{◌≡◌, Option, Some, None}
 use Rattle.by_need.specs.Asking.{Asking, Gives, Ask}
 use Rattle.system_events.specs.declared.event.Cause.{Cause}
 use Rattle.system_events.specs.declared.event.Cause.TheVariants.{Memory}
@@ -80,6 +80,16 @@ module _ {M T V P Q R F G W E : Type 0} (talks : Talks T V P Q R E G W) where
   Goes p stage.Unshares answered asked new = (asked ≡ op.Finished) × (new ≡ stage.Over)
   Goes p stage.Over answered asked new = ⊥
 
+-- the request that is to begin, at a stage before its Begin was answered
+abbrev pub request_at_stage : {Q T W C : Type 0} → Stage Q T W C → Option Q
+request_at_stage (stage.Fresh request) = Some request
+request_at_stage (stage.Shares request) = Some request
+request_at_stage (stage.Checks request) = Some request
+request_at_stage (stage.Takes request) = Some request
+request_at_stage (stage.Reloads request) = Some request
+request_at_stage (stage.Begins request) = Some request
+request_at_stage _ = None
+
 module _ {M T V P Q R F : Type 0} where
   -- a fault of a check or of a reload is never want of memory
   abbrev pub IsFaultCause : Cause M T V P Q R F → Type 0
@@ -87,6 +97,16 @@ module _ {M T V P Q R F : Type 0} where
   IsFaultCause _ = Unit {0}
 
 module _ {M T V P Q R F E : Type 0} where
+  -- what an actor that was asked for nothing yet is given
+  abbrev pub FitsStart : Answered V E (Cause M T V P Q R F) → Type 0
+  FitsStart answer.Start = Unit {0}
+  FitsStart _ = ⊥
+
+  -- the answer of what can only be done
+  abbrev pub FitsDone : Answered V E (Cause M T V P Q R F) → Type 0
+  FitsDone answer.Done = Unit {0}
+  FitsDone _ = ⊥
+
   -- the answers of a check
   abbrev pub FitsCheck : Answered V E (Cause M T V P Q R F) → Type 0
   FitsCheck answer.Same = Unit {0}
@@ -122,11 +142,11 @@ module _ {M T V P Q R F E : Type 0} where
 module _ {M T V P Q R F W E : Type 0} where
   -- The answers of what was asked for last. All but the start, and but those above, are answered by Done alone.
   abbrev pub Fits : Stage Q T W (Cause M T V P Q R F) → Answered V E (Cause M T V P Q R F) → Type 0
-  Fits (stage.Fresh q) answered = answered ≡ answer.Start
+  Fits (stage.Fresh q) answered = FitsStart answered
   Fits (stage.Checks q) answered = FitsCheck answered
   Fits (stage.Reloads q) answered = FitsReload answered
   Fits (stage.Releases next) answered = FitsRelease answered
   Fits (stage.Looks task waiting) answered = FitsLook answered
   Fits (stage.Loads task waiting) answered = FitsLoad answered
   Fits stage.Over answered = ⊥
-  Fits _ answered = answered ≡ answer.Done
+  Fits _ answered = FitsDone answered

@@ -1,9 +1,12 @@
 //! The order of the operations of one request.
-ghost use Rattle.std.specs.Prelude.{◌≡◌, IfOk};
+ghost use Rattle.std.specs.Prelude.{◌≡◌, ◌↔◌, IfOk, IsTrue, option_map};
 ghost use Rattle.request_actor.specs.Order.{Goes, Fits, FitsCheck, AfterCheck, AfterRelease, GoesOn, Runs, AfterLook};
-ghost use Rattle.request_actor.specs.Order.{AfterLoad, after_reload};
+ghost use Rattle.request_actor.specs.Order.{AfterLoad, after_reload, request_at_stage};
 ghost use Rattle.request_actor.specs.Answers.{KeepsRight};
 
+use crate::fitting::{
+    is_done, is_of_check, is_of_load, is_of_look, is_of_release, is_of_reload, is_start,
+};
 use crate::op::{Answered, Op};
 use crate::requests::{Asked, Requests};
 use std::alloc::AllocError;
@@ -107,6 +110,37 @@ impl<M: Requests> Actor<M> {
             Stage::Ends | Stage::Refuses => Ok(self.ask(Op::Unshare, Stage::Unshares)),
             Stage::Unshares => Ok(self.ask(Op::Finished, Stage::Over)),
             Stage::Over => unreachable!(),
+        }
+    }
+
+    /// The request, where it is to begin still; not in an unload section's release.
+    pub fn request(&self) -> Option<&M::Request>
+        ensures { option_map (λ request. request.now) result ≡ request_at_stage self.now }
+    {
+        match &self.stage {
+            Stage::Fresh(request) => Some(request),
+            Stage::Shares(request) => Some(request),
+            Stage::Checks(request) => Some(request),
+            Stage::Takes(request) => Some(request),
+            Stage::Reloads(request) => Some(request),
+            Stage::Begins(request) => Some(request),
+            _ => None,
+        }
+    }
+
+    /// Whether this is an answer of what was asked for last.
+    pub fn takes(&self, answered: &Answered<M::Value, M::Error, Cause<M>>) -> bool
+        ensures { IsTrue result ↔ Fits self.now answered.now }
+    {
+        match &self.stage {
+            Stage::Fresh(_) => is_start(answered),
+            Stage::Checks(_) => is_of_check(answered),
+            Stage::Reloads(_) => is_of_reload(answered),
+            Stage::Releases(_) => is_of_release(answered),
+            Stage::Looks(_, _) => is_of_look(answered),
+            Stage::Loads(_, _) => is_of_load(answered),
+            Stage::Over => false,
+            _ => is_done(answered),
         }
     }
 

@@ -19,6 +19,7 @@
 #![tactic(auto)]
 
 mod actor;
+mod fitting;
 mod op;
 mod requests;
 

@@ -1,2 +1,2 @@
-mod Standing
-mod Conducting
+pub mod Standing
+pub mod Conducting

@@ -49,9 +49,10 @@ turn_from number (line ∷ lines) =
 abbrev pub next_turn : Left → Turn
 next_turn left = turn_from left.number left.lines
 
--- A reader's answer is the next turn, unless it is want of memory, and it has what is left then. A line outside the
--- grammar and want of memory leave it as it was.
+-- A reader's answer is the next turn, unless it is want of memory, which has line 0, and it has what is left then. A
+-- line outside the grammar and want of memory leave it as it was.
 abbrev pub IsTurn : Result (Option Told) LineFault → Left → Left → Type 0
 IsTurn (Ok None) old new = (next_turn old ≡ Ends) × (new.lines ≡ [])
 IsTurn (Ok (Some told)) old new = next_turn old ≡ Tells told new
-IsTurn (Err fault) old new = (fault.kind ≢ Memory → next_turn old ≡ Wrong fault) × (new ≡ old)
+IsTurn (Err fault) old new =
+    (fault.kind ≢ Memory → next_turn old ≡ Wrong fault) × (fault.kind ≡ Memory → fault.line ≡ 0) × (new ≡ old)

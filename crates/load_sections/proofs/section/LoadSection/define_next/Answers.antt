@@ -1,4 +1,4 @@
-use Rattle.std.proofs.Common.{◌≡◌, refl, lt_trans, ◌∙◌, sym}
+use Rattle.std.proofs.Common.{refl, lt_trans, ◌∙◌}
 use Rattle.by_need_loader.specs.Progress.{History}
 use Rattle.load_sections.specs.Sections.{table_at}
 use Rattle.load_sections.proofs.Defining.{is_defined, is_loaded, has_failed, theory_at, define_is_needed}
