@@ -1,0 +1,9 @@
+//! Loads of many tasks, one after another over one table: which are defined, in which order, and who is to blame for
+//! those that stay unknown.
+#![tactic(auto)]
+
+mod check;
+mod noted;
+
+pub use check::{Checked, check_tasks};
+pub use noted::load_noting;
