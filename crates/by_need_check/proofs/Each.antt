@@ -28,7 +28,8 @@ causes_more (f ∷ failed) t failure = ap (λ found. (f.0, cause f.1) ∷ found)
 
 module _ {T V E O : Type 0} (r : Rules T V E O) where
   -- nothing is loaded yet
-  pub begins : (tasks : List T) (J : T → Option V) → Part J (known r) → AllTasks r tasks → IsAmid r J tasks tasks J [] []
+  pub begins : (tasks : List T) (J : T → Option V) → Part J (known r) → AllTasks r tasks →
+      IsAmid r J tasks tasks J [] []
   begins tasks J part all = record {
     part = part;
     are_tasks = all;
@@ -73,7 +74,8 @@ module _ {T V E O : Type 0} (r : Rules T V E O) where
   -- all tasks are loaded
   pub all_loaded : (J K : T → Option V) (tasks defined : List T) (failed : List (T × Failure T E O)) →
       IsAmid r J tasks [] K defined failed →
-      (causes failed ≡ blamed r tasks) × ((made : List (T × V)) × LoadEach r J tasks made K × (defined ≡ defined_tasks made))
+      (causes failed ≡ blamed r tasks)
+      × ((made : List (T × V)) × LoadEach r J tasks made K × (defined ≡ defined_tasks made))
   all_loaded J K tasks defined failed amid = (
     sym (amid.told ∙ append-nil (causes failed)),
     (amid.made, subst (λ made. LoadEach r J tasks made K) (append-nil amid.made) (amid.order [] K none), amid.noted),
