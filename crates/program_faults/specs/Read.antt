@@ -1,6 +1,6 @@
 -- Files that were read, as contracts see them.
-use Rattle.std.specs.Prelude.{◌&&◌, List, map, Option, Some, None, find}
-use Rattle.std.specs.List.{list_any}
+use Rattle.std.specs.Prelude.{◌&&◌, List, [], ◌∷◌, map, Option, Some, None, find}
+use Rattle.std.specs.List.{list_any, flat_map}
 use Rattle.ruby_types.specs.declared.request.RubyError.{RubyError}
 use Rattle.program_places.specs.Paths.{Path}
 use Rattle.program_files.specs.Files.{UsedFile, Readable, Unreadable, entries, is_namespace}
@@ -24,9 +24,14 @@ seen_reading (read.Fault kind at) = Unreadable kind.now at
 abbrev pub used : ReadFile → UsedFile
 used f = record { path = f.path.now; constant = f.constant.now; reading = seen_reading f.reading }
 
--- files that were read, without references
-abbrev pub used_all : List ReadFile → List UsedFile
-used_all fs = map used fs
+-- the file that stands at a place, if one that is used does
+abbrev pub present : Option ReadFile → List UsedFile
+present None = []
+present (Some f) = used f ∷ []
+
+-- the files that are used, among all
+abbrev pub used_all : List (Option ReadFile) → List UsedFile
+used_all fs = flat_map present fs
 
 -- the constants that files spell, in the order of the files
 abbrev pub constants_of : List UsedFile → List Path

@@ -19,11 +19,13 @@ mod messages;
 mod own;
 mod paths;
 mod read;
+mod reading;
 mod tests_of_entries;
 mod verdict;
 
 pub use files::UsedFiles;
-pub use own::{OwnKind, own_of};
+pub use own::{OwnKind, is_definition, kind_of, own_of};
 pub use paths::{begins, is_above, is_same};
 pub use read::{ReadFile, Reading};
+pub use reading::entries_in;
 pub use verdict::file_fault;

@@ -1,3 +1,5 @@
+ghost use Rattle.std.specs.Prelude.{◌≢◌, []};
+
 use outside::FilePath;
 use program_entries::Entry;
 use ruby_types::CPath;
@@ -15,4 +17,5 @@ pub struct ReadFile<'t> {
     pub path: &'t FilePath,
     pub constant: &'t CPath,
     pub reading: Reading<'t>,
+    ghost named: { constant.now ≢ [] },
 }

@@ -1,5 +1,5 @@
 //! The first fault of a file.
-ghost use Rattle.std.specs.Prelude.{◌≡◌, ◌≢◌, ◌&&◌, [], IfOk};
+ghost use Rattle.std.specs.Prelude.{◌≡◌, ◌&&◌, IfOk};
 ghost use Rattle.std.specs.List.{find, list_any};
 ghost use Rattle.std.specs.Option.{option_map};
 ghost use Rattle.program_files.specs.Faults as spec;
@@ -15,20 +15,11 @@ use crate::messages::{
 };
 use crate::own::{OwnKind, own_of};
 use crate::read::{ReadFile, Reading};
+use crate::reading::entries_in;
 use crate::tests_of_entries::{any_outside, clashes, opens_around};
 use program_entries::Entry;
-use ruby_types::{CPath, RubyError};
+use ruby_types::RubyError;
 use std::alloc::{AllocError, Global};
-
-/// The entries of what was read; none of a text without a tree.
-fn entries_in<'a, 't>(reading: &'a Reading<'t>) -> &'a [Entry<'t>]
-    ensures { seen_all result.now ≡ among.entries_read (seen_reading reading.now) }
-{
-    match reading {
-        Reading::Entries(entries) => entries.as_slice(),
-        Reading::Fault { .. } => &[],
-    }
-}
 
 /// It doesn't parse.
 fn unread(alloc: Global, file: &ReadFile<'_>) -> Result<Option<RubyError>, AllocError>
@@ -70,8 +61,7 @@ fn more_than(alloc: Global, file: &ReadFile<'_>) -> Result<Option<RubyError>, Al
 
 /// Whether it assigns a namespace.
 fn assigns_namespace(files: &UsedFiles<'_, '_>, file: &ReadFile<'_>, own: OwnKind) -> bool
-    requires named { file.now.constant.now ≢ [] }
-    requires own { own ≡ read.own_of (used file.now) }
+    requires { own ≡ read.own_of (used file.now) }
     ensures { result ≡ (spec.is_value (spec.kind_in (among.entries (used file.now)) file.now.constant.now)
         && among.is_namespace (used_all files.now.files.now) file.now.constant.now) }
 {
@@ -113,7 +103,6 @@ pub fn file_fault(
     files: &UsedFiles<'_, '_>,
     file: &ReadFile<'_>,
 ) -> Result<Option<RubyError>, AllocError>
-    requires { file.now.constant.now ≢ [] }
     ensures { IfOk result (λ fault. fault ≡ spec.file_fault (used_all files.now.files.now) (used file.now)) }
 {
     match unread(alloc, file)? {
@@ -128,7 +117,6 @@ fn text_fault(
     files: &UsedFiles<'_, '_>,
     file: &ReadFile<'_>,
 ) -> Result<Option<RubyError>, AllocError>
-    requires { file.now.constant.now ≢ [] }
     ensures { IfOk result (λ fault. fault ≡ read.text_fault (used_all files.now.files.now) (used file.now)) }
 {
     let own = own_of(file);
@@ -148,8 +136,7 @@ fn place_fault(
     file: &ReadFile<'_>,
     own: OwnKind,
 ) -> Result<Option<RubyError>, AllocError>
-    requires named { file.now.constant.now ≢ [] }
-    requires own { own ≡ read.own_of (used file.now) }
+    requires { own ≡ read.own_of (used file.now) }
     ensures { IfOk result (λ fault. fault ≡ read.place_fault (used_all files.now.files.now) (used file.now)) }
 {
     let entries = entries_in(&file.reading);

@@ -63,7 +63,9 @@ module _ {A : Type 0} where
   any_true test x (y ∷ ys) (inr m) h = or_right (test y) (list_any test ys) (any_true test x ys m h)
 
 module _ {A B : Type 0} where
-  flat_from : (f : A → List B) (y : B) (xs : List A) → Among y (flat_map f xs) → (x : A) × Among x xs × Among y (f x)
+  -- what all give comes from a member
+  pub flat_from : (f : A → List B) (y : B) (xs : List A) → Among y (flat_map f xs) → (x : A) × Among x xs
+      × Among y (f x)
   flat_from f y [] h = absurd h
   flat_from f y (x ∷ xs) h = elim (among_cases y (f x) (flat_map f xs) h) [
     | inl k ↦ (x, inl refl, k)
@@ -357,7 +359,8 @@ module _ (files : List UsedFile) (one : OneFile files) where
   content_there file p a_class = (_, refl)
   content_there file p (a_value x scopes) = (_, refl)
 
-  abbrev Owns : UsedFile → Path → Type 0
+  -- the file is what stands at the path
+  abbrev pub Owns : UsedFile → Path → Type 0
   Owns file c = (content : Content) × (place_of files c ≡ Owned file.path content)
 
   inner_owned : (file : UsedFile) (c : Path) → Among file files → file_fault files file ≡ None
@@ -381,7 +384,8 @@ module _ (files : List UsedFile) (one : OneFile files) where
       → Owns file file.constant
   own_faulty file error m f = (Faulty error, rw (its_file file m, f) refl)
 
-  const_at : (file : UsedFile) (o : Option RubyError) (c : Path) → Among file files → file_fault files file ≡ o
+  -- a file owns each constant that it has as a task
+  pub const_at : (file : UsedFile) (o : Option RubyError) (c : Path) → Among file files → file_fault files file ≡ o
       → Among (task.Const c) (tasks_by file o) → Owns file c
   const_at file (Some error) c m f (inl e) = absurd cc
   const_at file (Some error) c m f (inr (inl e)) = let same : file.constant ≡ c = cc in
