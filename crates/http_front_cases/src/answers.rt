@@ -81,7 +81,9 @@ fn target_found(alloc: Global, target: &[u8]) -> Result<Vec<u8>, AllocError> {
     }
     match request_of(alloc, target) {
         Ok(request) => shown_request(alloc, &request),
-        Err(TargetFault::TooLong(length)) => Ok(format!(in alloc; "too long {length}")?.into_bytes()),
+        Err(TargetFault::TooLong(length)) => Ok(format!(in alloc;
+            "too long {length}"
+        )?.into_bytes()),
         Err(TargetFault::Memory) => bytes_from(alloc, "memory"),
     }
 }

@@ -70,7 +70,10 @@ impl Reading {
     /// Takes a digit of the number of times, or the colon behind it.
     fn times(&mut self, byte: u8) -> Next {
         if byte.is_ascii_digit() {
-            self.times = self.times.saturating_mul(10).saturating_add(usize::from(digit(byte)));
+            self.times = self
+                .times
+                .saturating_mul(10)
+                .saturating_add(usize::from(digit(byte)));
             return Next::Times;
         }
         self.start = self.bytes.len();
