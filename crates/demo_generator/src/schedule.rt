@@ -17,6 +17,7 @@ pub enum Turn {
 }
 
 /// A made schedule: chance, and the requests that are left.
+#[derive(Drop)]
 pub struct Schedule {
     modules: u32,
     chance: u64,

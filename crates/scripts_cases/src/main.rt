@@ -1,18 +1,25 @@
-//! Tries `script_lines` on the scripts of its standard input, which were worked out by hand, and says how many cases
-//! hold.
+//! Tries the crates that scripts and replays are made of on the cases of its standard input, which were worked out by
+//! hand, and says how many hold.
 //!
-//! A case is a paragraph of two lines. The first has the lines of a script, with ` / ` between each two. The second has
-//! what they tell, with the same between each two: the number of a line, the instruction with its seat counted from 0,
-//! and a file's content in quotes; or the number of the first line outside the grammar and what is wrong with it.
+//! A case is a paragraph of two lines: a kind and a text; and behind `= ` what is wanted of it.
 //!
-//! ```text
-//! write app/lib/a.rb / |A / step 2
-//! = 1 write app/lib/a.rb "A\n" / 3 step 1
-//! ```
+//! | Kind | Text | Wanted |
+//! |---|---|---|
+//! | `script` | the lines of a script, with ` / ` between each two | what they tell, with the same between each two |
+//! | `line` | a seat counted from 0, a step, and its task, or its numbers and its body | the line that tells it |
+//! | `turns` | a number of modules, and each turn's seats, `x` where one has a request | what each turn does |
+//! | `file` | `path`, `module`, `edited`, `controller` or `target`, and a number | the text, in quotes |
+//!
+//! Of a script each instruction is told with the number of its line, its seat counted from 0 and a file's content in
+//! quotes; the first line outside the grammar with its number and what is wrong with it.
 #![tactic(auto)]
 
+mod drawn;
+mod step_lines;
 mod told;
 
+use crate::drawn::{all_turns, file_text};
+use crate::step_lines::line_of;
 use crate::told::all_told;
 use std::alloc::{AllocError, Global};
 use std::io;
@@ -31,6 +38,23 @@ fn script_of(alloc: Global, case: &str) -> Result<Vec<u8>, AllocError> {
     Ok(script)
 }
 
+// What is found of a case's first line.
+fn found(alloc: Global, case: &str) -> Result<Vec<u8>, AllocError> {
+    let Some((kind, text)) = case.split_once(": ") else {
+        return Vec::from_slice(alloc, b"no kind");
+    };
+    match kind {
+        "script" => {
+            let script = script_of(alloc, text)?;
+            all_told(alloc, script.as_slice())
+        }
+        "line" => line_of(alloc, text),
+        "turns" => all_turns(alloc, text),
+        "file" => file_text(alloc, text),
+        _ => Vec::from_slice(alloc, b"no such kind"),
+    }
+}
+
 fn main(rt: HostRuntime) -> io::Result<()> {
     let alloc = rt.alloc();
     let mut case = String::new(alloc);
@@ -42,8 +66,7 @@ fn main(rt: HostRuntime) -> io::Result<()> {
             case = line;
             continue;
         };
-        let script = script_of(alloc, case.as_str())?;
-        let found = all_told(alloc, script.as_slice())?;
+        let found = found(alloc, case.as_str())?;
         if found.as_slice() == wanted.as_bytes() {
             held = held.saturating_add(1);
         } else {
