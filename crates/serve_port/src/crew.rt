@@ -10,7 +10,7 @@ ghost use Rattle.serve_port.specs.declared.crew.PortEnd.TheVariants.{Ended, Fail
 
 use crate::held_port::HeldPort;
 use crate::shared_port::{PortLedger, SharedPort};
-use crate::work::{Worker, work};
+use crate::work::{Worker, either, work};
 use outside_links::{Closer, Port};
 use std::alloc::Global;
 use std::marker::Brand;
@@ -25,13 +25,6 @@ use worker::ServesHeads;
 pub struct Rows<S, C> {
     pub servers: Vec<S>,
     pub closers: Vec<C>,
-}
-
-/// Whether one of two is true.
-fn either(one: bool, other: bool) -> bool
-    ensures { result ≡ false → (one ≡ false) × (other ≡ false) }
-{
-    one || other
 }
 
 #[cycle(crew)]

@@ -27,6 +27,13 @@ pub struct Worker<S, C, K: PortLedger> {
     pub short: bool,
 }
 
+/// Whether one of two is true.
+pub fn either(one: bool, other: bool) -> bool
+    ensures { result ≡ false → (one ≡ false) × (other ≡ false) }
+{
+    one || other
+}
+
 /// Whether a connection found no memory.
 fn fell_short<F: Drop>(end: End<F>) -> bool
     ensures { result ≡ false → end ≡ Memory → ⊥ }
@@ -57,7 +64,6 @@ fn serve_link<S: ServesHeads, L: Link, R: Wait>(
     fell_short(served.end)
 }
 
-#[tactic(auto, using(crate::proofs::Told::answered_more, crate::specs::Became::became_itself, crate::specs::Became::became_more))]
 /// Takes connections, serves and closes them until the port has ended or failed.
 pub fn work<Q: HeldPort, S: ServesHeads, C: Closer<Q::Conn>, K: PortLedger, R: Wait>(
     rt: &R,
@@ -88,7 +94,7 @@ pub fn work<Q: HeldPort, S: ServesHeads, C: Closer<Q::Conn>, K: PortLedger, R: W
             break;
         };
         let fell = serve_link(rt, alloc, &mut server, &mut link);
-        short = short || fell;
+        short = either(short, fell);
         closer.close(link);
     }
     Worker {

@@ -39,7 +39,7 @@ struct Row {
 }
 
 /// A row of which nothing is served.
-fn row(input: &'static [u8], piece: usize, fails: &'static [u64], limit: usize) -> Row {
+fn comes(input: &'static [u8], piece: usize, fails: &'static [u64], limit: usize) -> Row {
     Row {
         input,
         piece,
@@ -78,19 +78,19 @@ fn try_row<R: Wait + Abort>(rt: &R, alloc: Global, row: &Row) -> Result<(), Fail
 #[test]
 fn connections_end_by_their_heads(rt: HostRuntime) -> Result<(), Fail> {
     let rows = [
-        row(b"", 1, &[], 9).ends(b"", b"", "closed"),
-        row(b"G\nH\nO\nC\nG\n", 1, &[], 9).ends(b"GHOC", b"-G--OcC", "closed"),
-        row(b"G\nH\nO\nC\nG\n", 99, &[], 9).ends(b"GHOC", b"-G--OcC", "closed"),
-        row(b"G\nB\nabc", 3, &[], 9).ends(b"GB", b"-GcB", "unread"),
-        row(b"G\nO", 1, &[], 9).ends(b"G", b"-G", "torn"),
-        row(b"G\nOx", 2, &[], 9).ends(b"G", b"-Gb", "bad"),
-        row(b"Ol", 2, &[], 9).ends(b"", b"l", "long"),
-        row(b"Om", 2, &[], 9).ends(b"", b"m", "many"),
-        row(b"G\nO\nG\n", 9, &[], 1).ends(b"G", b"-Gf7", "full"),
-        row(b"G\nH\nG\n", 9, &[], 1).ends(b"G", b"-Gf", "full"),
-        row(b"G\nO\n", 2, &[3], 9).ends(b"G", b"-G", "read fault"),
-        row(b"G\nO\n", 2, &[4], 9).ends(b"GO", b"-G", "write fault"),
-        row(b"G\nO\n", 2, &[4], 1).ends(b"G", b"-G", "write fault"),
+        comes(b"", 1, &[], 9).ends(b"", b"", "closed"),
+        comes(b"G\nH\nO\nC\nG\n", 1, &[], 9).ends(b"GHOC", b"-G--OcC", "closed"),
+        comes(b"G\nH\nO\nC\nG\n", 99, &[], 9).ends(b"GHOC", b"-G--OcC", "closed"),
+        comes(b"G\nB\nabc", 3, &[], 9).ends(b"GB", b"-GcB", "unread"),
+        comes(b"G\nO", 1, &[], 9).ends(b"G", b"-G", "torn"),
+        comes(b"G\nOx", 2, &[], 9).ends(b"G", b"-Gb", "bad"),
+        comes(b"Ol", 2, &[], 9).ends(b"", b"l", "long"),
+        comes(b"Om", 2, &[], 9).ends(b"", b"m", "many"),
+        comes(b"G\nO\nG\n", 9, &[], 1).ends(b"G", b"-Gf7", "full"),
+        comes(b"G\nH\nG\n", 9, &[], 1).ends(b"G", b"-Gf", "full"),
+        comes(b"G\nO\n", 2, &[3], 9).ends(b"G", b"-G", "read fault"),
+        comes(b"G\nO\n", 2, &[4], 9).ends(b"GO", b"-G", "write fault"),
+        comes(b"G\nO\n", 2, &[4], 1).ends(b"G", b"-G", "write fault"),
     ];
     for row in &rows {
         try_row(&rt, rt.alloc(), row)?;
