@@ -1,11 +1,12 @@
 -- Lists of values against rounds.
 use Rattle.std.proofs.Common.{◌≡◌, ℕ, zero, suc, ◌+◌, ◌≤◌, ◌<◌, List, [], ◌∷◌, ◌++◌, length, replicate, Option, Some}
-use Rattle.std.proofs.Common.{None, Bool, true, false, inl, inr, refl, sym, ap, ◌∙◌, arith, eqb}
+use Rattle.std.proofs.Common.{None, Bool, true, false, inl, inr, refl, sym, ap, ◌∙◌, arith, eqb, ltb}
 use Rattle.std.specs.List.{list_any}
-use Rattle.std.proofs.lemmas.Bool.{false≢true, or_cases, cases_lt, eqb-true}
+use Rattle.std.proofs.lemmas.Bool.{false≢true, and_parts, or_cases, cases_lt, eqb-true, ltb-true}
 use Rattle.by_need.specs.Asking.{Outcome, Computation, Gives, Ask, over, with_value}
+use Rattle.by_need.specs.Open.{AllTasks}
 use Rattle.by_need.specs.Rounds.{Part, is_task, round, known, value_or}
-use Rattle.by_need_graph.specs.Graph.{below, meaning, rules_of, value_at}
+use Rattle.by_need_graph.specs.Graph.{below, meaning, questions_below, rules_of, value_at}
 use Rattle.by_need_graph.specs.GraphLaws.{in_below}
 use Rattle.by_need_graph.specs.declared.graph.Body.{Body}
 
@@ -112,3 +113,11 @@ module _ (bodies : List Body) where
       ((t : ℕ) → value_at values t ≡ round (rules_of bodies) k t) → (t : ℕ) →
       value_at values t ≡ known (rules_of bodies) t
   rounds_end values k e h t = h t ∙ ap (λ n. round (rules_of bodies) n t) (e ∙ sym (length-below (length bodies)))
+
+-- numbers below the count of tasks are tasks
+pub below_are_tasks : (bodies : List Body) (ts : List ℕ) → questions_below (length bodies) ts ≡ true →
+    AllTasks (rules_of bodies) ts
+below_are_tasks bodies [] h = tt
+below_are_tasks bodies (t ∷ ts) h =
+    let parts = and_parts (ltb t (length bodies)) (questions_below (length bodies) ts) h in
+    (in_below (length bodies) t (ltb-true t (length bodies) parts.0), below_are_tasks bodies ts parts.1)

@@ -2,11 +2,13 @@
 ghost use Rattle.std.specs.Prelude.{◌≡◌, ◌≤◌, ◌<◌, ℕ, length, true, false, List, Option, Some, IfOk, IfSome, IsNone};
 ghost use Rattle.by_need.specs.Rounds.{Part, is_task, known};
 ghost use Rattle.by_need_loader.specs.Ends.{Ends};
-ghost use Rattle.by_need_graph.specs.Graph.{rules_of, value_at};
+ghost use Rattle.by_need_check.specs.Checks.{blamed, causes};
+ghost use Rattle.by_need_graph.specs.Graph.{questions_below, rules_of, value_at};
 
-use crate::graph::Graph;
+use crate::graph::{Graph, are_below};
 use crate::program::Values;
 use crate::rounds::{known_values, no_values, value_of};
+use by_need_check::{Checked, check_tasks};
 use by_need_loader::{Loaded, load};
 use std::alloc::{AllocError, Global};
 
@@ -86,4 +88,25 @@ pub fn load_alone(
         values: no_values(alloc, count)?,
     };
     Ok(Some(load(alloc, graph, &mut table, task)?))
+}
+
+/// Loads tasks one after another over an empty table; None where some number is no task.
+pub fn check_alone(
+    alloc: Global,
+    graph: &Graph,
+    tasks: &[u32],
+) -> Result<Option<Checked<u32, u32, u32>>, AllocError>
+    ensures failed { IfOk result (λ checked. IfSome checked (λ found. causes found.failed.items
+        ≡ blamed (rules_of graph.now.bodies.items) tasks.now)) }
+    ensures refused { IfOk result (λ checked. IsNone checked →
+        questions_below (length graph.now.bodies.items) tasks.now ≡ false) }
+{
+    let count = graph.bodies.len();
+    if !are_below(tasks, count) {
+        return Ok(None);
+    }
+    let mut table = Values {
+        values: no_values(alloc, count)?,
+    };
+    Ok(Some(check_tasks(alloc, graph, &mut table, tasks)?))
 }

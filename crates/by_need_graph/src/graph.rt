@@ -27,7 +27,7 @@ pub struct Graph {
     pub ghost closed: { all_below (length bodies.items) bodies.items ≡ true },
 }
 
-fn are_below(questions: &[u32], count: usize) -> bool
+pub(crate) fn are_below(questions: &[u32], count: usize) -> bool
     ensures { result ≡ questions_below count questions.now }
 {
     questions

@@ -8,7 +8,7 @@ pub mod graph;
 pub mod program;
 pub mod rounds;
 
-pub use beside::{load_alone, load_beside_rounds};
+pub use beside::{check_alone, load_alone, load_beside_rounds};
 pub use blame::blame_by_rounds;
 pub use graph::{Body, Ending, Graph};
 pub use program::{Run, Values};

@@ -2,7 +2,7 @@
 //! questions each, where each task ends by a value, an error or an end of the other kind. And loads that nest deep.
 use by_need_graph::rounds::Answer;
 use by_need_graph::{
-    Body, Ending, Graph, Values, known_values, load_alone, load_beside_rounds, run_task,
+    Body, Ending, Graph, Values, check_alone, known_values, load_alone, load_beside_rounds, run_task,
 };
 use by_need_loader::{Failure, Loaded};
 use std::alloc::{AllocError, Global};
@@ -292,5 +292,41 @@ fn a_ring_at_the_end_of_100_000_tasks_is_found(rt: HostRuntime) -> Result<(), Fa
         Some(Loaded::Failed(Failure::Circle(ring))) => assert_eq!(rt; ring.len(), 1_000),
         _ => assert!(rt; false),
     }
+    Ok(())
+}
+
+/// Whether a failure is the ring of these tasks.
+fn is_circle(failure: &Failure<u32, u32, u32>, tasks: &[u32]) -> bool {
+    match failure {
+        Failure::Circle(ring) => ring.as_slice() == tasks,
+        _ => false,
+    }
+}
+
+#[test]
+fn all_tasks_are_checked_though_some_fail(rt: HostRuntime) -> Result<(), Fail> {
+    // a asks for b and c, c and d for e, e for d, f for b and fails; a to f are 0 to 5
+    let alloc = rt.alloc();
+    let questions = [[1, 2].as_slice(), &[], &[4], &[4], &[3], &[1]];
+    let mut bodies = Vec::new(alloc);
+    for (task, asked) in questions.iter().enumerate() {
+        let ending = if task == 5 { Ending::Fail(7) } else { Ending::Sum };
+        let questions = Vec::from_slice(alloc, asked)?;
+        bodies.push(Body { questions, ending })?;
+    }
+    let Some(graph) = Graph::new(bodies) else {
+        return Err(Fail::new("no graph"));
+    };
+    let Some(checked) = check_alone(alloc, &graph, &[0, 1, 2, 3, 4, 5])? else {
+        return Err(Fail::new("no tasks"));
+    };
+    assert_eq!(rt; checked.defined.as_slice(), [1].as_slice());
+    assert_eq!(rt; checked.failed.len(), 5);
+    for (place, task) in [0, 2, 3, 4].iter().enumerate() {
+        assert_eq!(rt; checked.failed[place].0, *task);
+        assert!(rt; is_circle(&checked.failed[place].1, &[3, 4]));
+    }
+    assert_eq!(rt; checked.failed[4].0, 5);
+    assert!(rt; matches!(checked.failed[4].1, Failure::Raised(7)));
     Ok(())
 }
