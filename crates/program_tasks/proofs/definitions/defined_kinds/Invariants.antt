@@ -1,0 +1,9 @@
+use Rattle.std.proofs.Common.{◌≡◌, map, filter, take}
+use Rattle.program_files.specs.Faults.{is_definition, kind_of}
+use Rattle.program_entries.specs.Seen.{seen_all}
+use Rattle.program_faults.specs.Read.{own_kind}
+use Rattle.program_tasks.proofs.definitions.defined_kinds.Given as goal
+
+abbrev pub invariant-places : goal.invariant-places
+invariant-places l = l.kinds.items ≡ map (λ e. own_kind (kind_of e))
+    (filter is_definition (seen_all (take l.place l.entries)))
