@@ -1,10 +1,10 @@
 -- The rows of a desk after an act, and what is set aside then.
-use Rattle.std.proofs.Common.{◌≡◌, ◌≢◌, ℕ, ◌<◌, ◌≤◌, ◌+◌, List, [], ◌∷◌, ◌++◌, length, set, get_or, replicate, sum}
+use Rattle.std.proofs.Common.{◌≡◌, ℕ, ◌<◌, ◌≤◌, ◌+◌, List, [], ◌∷◌, length, set, get_or}
 use Rattle.std.specs.Prelude.{Result, Ok, Err, OnErr}
-use Rattle.std.proofs.Common.{None, refl, sym, ap, ◌∙◌, subst, arith, length-set, get_or-set_same, get_or-set_other}
+use Rattle.std.proofs.Common.{refl, sym, ap, ◌∙◌, subst, arith, length-set, get_or-set_same, get_or-set_other}
 use Rattle.std.proofs.lemmas.Bool.{cond_both}
 use Rattle.std.proofs.lemmas.List.{set-set, set-get_or, length-replicate}
-use Rattle.std.proofs.lemmas.List.Sums.{sum_by-set, get_or-le-sum_by}
+use Rattle.std.proofs.lemmas.List.Sums.{sum_by-set}
 use Rattle.share_lock.specs.Rows.{resting_row, eligible}
 use Rattle.share_lock.specs.Lock.{Lock}
 use Rattle.system_seats.specs.declared.table.SystemRow.{SystemRow}
@@ -12,7 +12,6 @@ use Rattle.system_seats.specs.Seats.{Seats, row, mark, is_calm, purpose_list}
 use Rattle.system_seats.specs.Effects.{purpose_of_section}
 use Rattle.system_seats.specs.Shapes.{IsTidy}
 use Rattle.system_events.specs.declared.event.Cause.TheVariants.{Memory}
-use Rattle.system_events.specs.declared.event.Act.{Act}
 use Rattle.system_events.specs.declared.event.Entry.{Entry}
 use Rattle.system_events.specs.declared.event.Kept.{Kept}
 use Rattle.system_events.specs.declared.event.Kept.TheVariants.{Share, Unshare, Yield, Retake, Seek, Take, Release}
@@ -20,12 +19,11 @@ use Rattle.system_events.specs.declared.event.Kept.TheVariants.{Resume, Refuse}
 use Rattle.system_events.specs.Facts.{Facts, SameIsEqual}
 use Rattle.system_events.specs.State.{State, next_place}
 use Rattle.system_events.specs.Steps.{effect, seats_after}
-use Rattle.system_events.specs.Legal.{start, IsStep, after_from, after, IsLegal, IsAfter}
+use Rattle.system_events.specs.Legal.{start, IsStep, after_from, after, IsAfter}
 use Rattle.system_laws.specs.Lawful.{IsExclusive}
 use Rattle.system_laws.proofs.Exclusion.{tidy-exclusive}
 use Rattle.system_laws.proofs.Keeps.{Keeps, keeps_after, after-push}
-use Rattle.system_core.specs.Keeping.{Book, values_used}
-use Rattle.shop_base.specs.declared.row.PassRow.{PassRow}
+use Rattle.system_core.specs.Keeping.{Book}
 use Rattle.shop_base.specs.Rows.{seat_row, with_room}
 use Rattle.shop_base.specs.Acts.{list_of, next_row}
 use Rattle.shop_base.proofs.OwnRows.{own_row_after}

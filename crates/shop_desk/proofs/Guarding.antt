@@ -1,5 +1,6 @@
 -- Which guards are true of which rows.
-use Rattle.std.proofs.Common.{◌≡◌, ◌≢◌, ℕ, Bool, true, false, not, Option, Some, None, is_some, refl, sym, ap, ◌∙◌, eq-eqb}
+use Rattle.std.proofs.Common.{◌≡◌, ◌≢◌, ℕ, Bool, true, false, not, Option, Some, None, is_some, refl, sym, ap, ◌∙◌}
+use Rattle.std.proofs.Common.{eq-eqb}
 use Rattle.std.proofs.Common.{arith, if◌then◌else◌, inl, inr}
 use Rattle.std.proofs.lemmas.Bool.{true≢false, cases_eq}
 use Rattle.share_lock.specs.Rows.{busy_exclusive}

@@ -1,5 +1,6 @@
 //! A system with the room that is set aside for its seats.
-ghost use Rattle.std.specs.Prelude.{◌≡◌, ◌<◌, ◌≤◌, ◌+◌, ℕ, length, slice_index, slice_set, replicate, IfOk, OnOk, OnErr};
+ghost use Rattle.std.specs.Prelude.{◌≡◌, ◌<◌, ◌≤◌, ◌+◌, ℕ, length, slice_index, slice_set, replicate, IfOk, OnOk};
+ghost use Rattle.std.specs.Prelude.{OnErr};
 ghost use Rattle.std.specs.Prelude.{Some, None};
 ghost use Rattle.system_events.specs.declared.event.Event.{Event};
 ghost use Rattle.share_lock.specs.Rows.{eligible};
@@ -155,7 +156,8 @@ impl<M: Matter> Desk<M> {
     }
 
     /// Enters an act of a seat and leaves so many entries and values aside for it; or refuses it by the first guard of
-    /// its row that is true, and changes nothing. An entry of those set aside is used, and a value where one is defined.
+    /// its row that is true, and changes nothing. An entry of those set aside is used, and a value where one is
+    /// defined.
     pub(crate) fn act(&mut self, seat: u32, act: Act<M>, entries: u32, values: u32) -> Applied<M>
         requires seat { seat < 64 }
         requires entries { entries + 1 ≤ slice_index self.old.entries seat }

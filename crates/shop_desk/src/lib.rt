@@ -6,7 +6,8 @@
 //! # Room
 //!
 //! An event takes no memory: the system's room for entries and values is reserved before. Two numbers of each seat say
-//! how much of that room is set aside for it, and what the system has reserved is at least what all seats have together.
+//! how much of that room is set aside for it, and what the system has reserved is at least what all seats have
+//! together.
 //! So nobody uses the room of another seat, and a call that closes something can't fail for want of memory.
 //!
 //! | After | Entries set aside | For |

@@ -121,7 +121,8 @@ impl<M: Matter> Desk<M> {
         requires room { entries + 4 ≤ slice_index self.old.entries seat }
         requires values { values ≤ slice_index self.old.values seat }
         requires new { is_in M.facts task self.old.state.table ≡ false }
-        requires busy { busy_exclusive self.old.state.seats.lock.rows self.old.state.seats.lock.exclusive seat 0 ≡ true }
+        requires busy { let lock = self.old.state.seats.lock in
+            busy_exclusive lock.rows lock.exclusive seat 0 ≡ true }
         requires task { Condition M.facts self.old.state seat (Kept.Seek (Want.Load task)) }
         ensures entry { self.new.state.history
             ≡ self.old.state.history ++ entry seat (Kept.Seek (Want.Load task)) ∷ [] }
@@ -204,7 +205,8 @@ impl<M: Matter> Desk<M> {
             × ((desk_row self.old seat).seat ≡ exclusive_seat (desk_row self.old seat).seat.running opened) }
         requires room { 2 ≤ slice_index self.old.entries seat }
         ensures entry { self.new.state.history ≡ self.old.state.history ++ entry seat Kept.Release ∷ [] }
-        ensures free { result ≡ true → desk_row self.new seat ≡ with_room (calm_seat (desk_row self.old seat).seat.running)
+        ensures free { result ≡ true → desk_row self.new seat
+            ≡ with_room (calm_seat (desk_row self.old seat).seat.running)
             (slice_index self.old.entries seat - 2) (slice_index self.old.values seat) }
         ensures waits { result ≡ false → desk_row self.new seat
             ≡ with_room (leaving_seat (desk_row self.old seat).seat.running)
@@ -228,7 +230,8 @@ impl<M: Matter> Desk<M> {
         requires room { 1 ≤ slice_index self.old.entries seat }
         ensures entry { result ≡ true →
             self.new.state.history ≡ self.old.state.history ++ entry seat Kept.Resume ∷ [] }
-        ensures row { result ≡ true → desk_row self.new seat ≡ with_room (calm_seat (desk_row self.old seat).seat.running)
+        ensures row { result ≡ true → desk_row self.new seat
+            ≡ with_room (calm_seat (desk_row self.old seat).seat.running)
             (slice_index self.old.entries seat - 1) (slice_index self.old.values seat) }
         ensures busy { result ≡ false → self.new ≡ self.old }
         ensures begun { begins seat self.new.state.history ≡ begins seat self.old.state.history }

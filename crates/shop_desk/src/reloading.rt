@@ -56,7 +56,8 @@ impl<M: Matter> Desk<M> {
         requires seat { seat < 64 }
         requires shares { (desk_row self.old seat).seat ≡ sharing_seat }
         requires room { 1 ≤ slice_index self.old.entries seat }
-        requires busy { busy_exclusive self.old.state.seats.lock.rows self.old.state.seats.lock.exclusive seat 1 ≡ true }
+        requires busy { let lock = self.old.state.seats.lock in
+            busy_exclusive lock.rows lock.exclusive seat 1 ≡ true }
         ensures entry { self.new.state.history
             ≡ self.old.state.history ++ entry seat (Kept.Seek Want.Unload) ∷ [] }
         ensures row { desk_row self.new seat

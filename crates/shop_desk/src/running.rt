@@ -1,5 +1,6 @@
 //! Sharing, and the requests that run.
-ghost use Rattle.std.specs.Prelude.{◌≡◌, ◌≢◌, ◌<◌, ◌≤◌, ◌+◌, ◌++◌, ◌∷◌, [], ℕ, true, false, length, slice_index, None, IfOk};
+ghost use Rattle.std.specs.Prelude.{◌≡◌, ◌≢◌, ◌<◌, ◌≤◌, ◌+◌, ◌++◌, ◌∷◌, [], ℕ, true, false, length, slice_index};
+ghost use Rattle.std.specs.Prelude.{None, IfOk};
 ghost use Rattle.std.specs.Prelude.{IfErr, OnErr, OnOk, Ok, Some};
 ghost use Rattle.system_events.specs.declared.event.Kept.{Kept};
 ghost use Rattle.system_events.specs.declared.event.Cause.{Cause};

@@ -1,4 +1,4 @@
-use Rattle.std.proofs.Common.{◌≡◌, ◌<◌, ◌≤◌, ◌+◌, ℕ, List, length, slice_index, slice_set, sym, ap, ◌∙◌, arith}
+use Rattle.std.proofs.Common.{◌≡◌, ◌≤◌, ◌+◌, slice_index, slice_set, ap, ◌∙◌, arith}
 use Rattle.system_events.specs.Steps.{kept_of, effect}
 use Rattle.system_core.specs.Keeping.{values_used}
 use Rattle.shop_base.specs.Passes.{begins}

@@ -13,7 +13,9 @@ pub unreachable-requires : goal.unreachable-requires
 unreachable-requires g c =
     let alone =
     exclusive_state g.M.Matter.facts g.met.M.Matter.same_is_equal 64 c.args.self.now.state c.act.ensures.after in
-    let done = c.act.ensures.passed (release_passes g.M.Matter.facts c.args.self.now.state c.args.seat alone _ _ c.requires.exclusive.1) in
+    let done =
+    c.act.ensures.passed (release_passes g.M.Matter.facts c.args.self.now.state c.args.seat alone _ _
+    c.requires.exclusive.1) in
     let refused = c.in-Refused.is in cc
 
 pub returns-clause-free : goal.returns-clause-free
@@ -23,9 +25,11 @@ returns-clause-free g c = λ calm.
     let running = (seat_row c.args.self.now.state.seats c.args.seat).running in
     let first = eligible (list_of (exclusive_seat running c.requires.exclusive.0))
     c.args.self.now.state.seats.lock.rows in
-    let is_so = ap (λ (r : SystemRow). is_calm r.lock.phase) (sym seat_is) ∙ (sym c.give_up_resume.ensures.calm ∙ calm) in
+    let is_so =
+    ap (λ (r : SystemRow). is_calm r.lock.phase) (sym seat_is) ∙ (sym c.give_up_resume.ensures.calm ∙ calm) in
     c.give_up_resume.ensures.free_row calm
-    ∙ (λ i. with_room ((seat_is ∙ released_calm first running is_so) i) (c.entries_of-entries.ensures i - 2) (c.values_of-values.ensures i))
+    ∙ (λ i. with_room ((seat_is ∙ released_calm first running is_so) i) (c.entries_of-entries.ensures i - 2)
+    (c.values_of-values.ensures i))
 
 pub returns-clause-waits : goal.returns-clause-waits
 returns-clause-waits g c = λ waits.
@@ -38,4 +42,5 @@ returns-clause-waits g c = λ waits.
     ∙ (sym c.give_up_resume.ensures.calm ∙ waits) in
     ap (λ d. desk_row d c.args.seat) (c.give_up_resume.ensures.waits waits)
     ∙ (after_release
-    ∙ (λ i. with_room (released_waits first running is_so i) (c.entries_of-entries.ensures i - 1) (c.values_of-values.ensures i)))
+    ∙ (λ i. with_room (released_waits first running is_so i) (c.entries_of-entries.ensures i - 1)
+    (c.values_of-values.ensures i)))

@@ -8,7 +8,9 @@ pub unreachable-requires : goal.unreachable-requires
 unreachable-requires g c =
     let alone =
     exclusive_state g.M.Matter.facts g.met.M.Matter.same_is_equal 64 c.args.self.now.state c.act.ensures.after in
-    let done = c.act.ensures.passed (seek_unload_passes g.M.Matter.facts c.args.self.now.state c.args.seat alone c.requires.shares c.requires.busy) in
+    let done =
+    c.act.ensures.passed (seek_unload_passes g.M.Matter.facts c.args.self.now.state c.args.seat alone
+    c.requires.shares c.requires.busy) in
     let refused = c.in-Refused.is in cc
 
 pub returns-clause-row : goal.returns-clause-row
