@@ -4,7 +4,8 @@ use Rattle.std.proofs.Common.{arith, zero, suc, subst, ap, ◌∙◌, length-app
 use Rattle.std.proofs.Math.ListN.{get_or-append}
 use Rattle.std.proofs.Math.Seq.{get_or-append_seam}
 use Rattle.std.proofs.lemmas.List.Elements.{All-append}
-use Rattle.serve_port.specs.Answered.{links_got, Pairwise}
+use Rattle.serve_port.specs.Answered.{links_got}
+use Rattle.serve_port.specs.Became.{Pairwise}
 
 -- the links of all, with one closer more
 pub links_got_more : {C : Type 0} (count : C → ℕ) (cs : List C) (c : C) →

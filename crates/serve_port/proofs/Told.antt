@@ -1,12 +1,10 @@
 -- What closers tell.
-use Rattle.std.specs.Prelude.{◌≡◌, ℕ, true, false, List, [], ◌∷◌, Option, Some, None, IfSome, length}
+use Rattle.std.specs.Prelude.{◌≡◌, ℕ, Bool, false, List, [], ◌∷◌, Option, Some, None, IfSome, length}
 use Rattle.std.proofs.Common.{arith, sym, subst, inl, inr}
 use Rattle.std.proofs.lemmas.List.Elements.{All-append}
 use Rattle.outside.specs.Told.{appended}
 use Rattle.outside_links.specs.CloserState.{TellsMore}
-use Rattle.serve_port.specs.declared.serves_links.Service.{Service}
-use Rattle.serve_port.specs.declared.serves_links.Service.TheVariants.{Whole, Short}
-use Rattle.serve_port.specs.Answered.{TellsAnswered, IfWhole, is_short}
+use Rattle.serve_port.specs.Answered.{TellsAnswered}
 use Rattle.serve_port.proofs.Rows.{all_one}
 
 more : {L : Type 0} (answered : L → Type 0) (before : Option (List L)) (link : L) → TellsAnswered answered before →
@@ -22,13 +20,12 @@ answered_with answered before now link tells told fact = elim tells [
   | inr e ↦ subst (TellsAnswered answered) (sym e) tt
 ]
 
--- so it is after a connection that was served whole
-pub answered_more : {L : Type 0} (answered : L → Type 0) (before now : Option (List L)) (link : L) (service : Service) →
-    TellsMore link before now → TellsAnswered answered before → IfWhole service (answered link) →
-    is_short service ≡ false → TellsAnswered answered now
-answered_more answered before now link Whole tells told fact whole =
-    answered_with answered before now link tells told fact
-answered_more answered before now link Short tells told fact whole = absurd (let bad : true ≡ false = whole in cc)
+-- so it is where the connection found memory enough
+pub answered_more : {L : Type 0} (answered : L → Type 0) (before now : Option (List L)) (link : L) (short : Bool) →
+    TellsMore link before now → TellsAnswered answered before → (short ≡ false → answered link) → short ≡ false →
+    TellsAnswered answered now
+answered_more answered before now link short tells told fact whole =
+    answered_with answered before now link tells told (fact whole)
 
 -- a list without a length has nothing in it that isn't answered
 pub none_told : {L : Type 0} (answered : L → Type 0) (told : Option (List L)) (n : ℕ) → n ≡ 0 →

@@ -6,19 +6,17 @@
 //!
 //! | The port | [`serve_port`] answers |
 //! |---|---|
-//! | gives some connections and then answers `End` | `Ended`, and each of them was served and closed |
+//! | gives some connections and then answers `End` | `Ended`, and each of them was served, answered and closed |
 //! | answers `Failed` | `Failed`, and all that it gave before were served and closed |
 //! | ended, and a connection found no memory | `Short` |
 //!
 //! Each worker runs on a thread of its own, where one can be made; else a worker does its part after another. No
-//! memory is taken here.
+//! memory is taken here but what connections take.
 #![tactic(auto)]
 
 pub mod crew;
 pub mod held_port;
-pub mod serves_links;
 pub mod shared_port;
 pub mod work;
 
 pub use crew::{PortEnd, serve_port};
-pub use serves_links::{ServesLinks, Service};

@@ -36,7 +36,7 @@ pub enum Entered<R, F> {
 /// makes its reply. `enter` puts the item into the history and ends the head. Between them the worker prints.
 pub trait ServesHeads {
     /// What is read of a head.
-    type Parts: Drop;
+    type Parts: Send + Drop;
 
     /// A request with its reply, or the cause of a refusal, each with the number of its generation.
     type Item;
@@ -47,13 +47,13 @@ pub trait ServesHeads {
     /// What the hooks keep.
     type Hooks;
 
-    type Receipt: Drop;
+    type Receipt: Send + Drop;
 
     /// A limit that is met.
-    type Limit: Drop;
+    type Limit: Send + Drop;
 
     /// A head whose item is known and isn't entered yet.
-    type Ready: Drop;
+    type Ready: Send + Drop;
 
     // Which heads bytes begin with, how responses are written, and what is promised of one head.
     ghost rules: { Rules Self.Parts Self.Item Self.Entry Self.Receipt Self.Hooks Self.Limit };
