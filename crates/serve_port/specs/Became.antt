@@ -1,5 +1,5 @@
 -- What a pass becomes in any number of connections.
-use Rattle.std.specs.Prelude.{◌≡◌, List, [], ◌∷◌, ◌++◌, ⊤}
+use Rattle.std.specs.Prelude.{List, [], ◌∷◌, ⊤}
 use Rattle.std.proofs.Common.{sym, append-nil}
 use Rattle.connection_items.specs.Exchanges.{Standing, Grows}
 use Rattle.connection_items.proofs.GainLaws.{grows_more}

@@ -1,5 +1,5 @@
 //! One worker.
-ghost use Rattle.std.specs.Prelude.{◌≡◌, false};
+ghost use Rattle.std.specs.Prelude.{◌≡◌, false, length, IfSome};
 ghost use Rattle.outside_links.specs.LinkState.{IsUnused};
 ghost use Rattle.connection_items.specs.Answers.{LinkIsAnswered};
 ghost use Rattle.connection_items.specs.declared.ends.End.TheVariants.{Memory};
@@ -64,6 +64,14 @@ fn serve_link<S: ServesHeads, L: Link, R: Wait>(
     fell_short(served.end)
 }
 
+/// A closer that got no link tells none. It is there for the prover.
+fn tells_nothing<C: Closer<L>, L: Link>(closer: &C)
+    requires { C.count closer.now ≡ 0 }
+    ensures { IfSome (C.told closer.now) (λ links. length links ≡ 0) }
+{
+    let _ = closer;
+}
+
 /// Takes connections, serves and closes them until the port has ended or failed.
 pub fn work<Q: HeldPort, S: ServesHeads, C: Closer<Q::Conn>, K: PortLedger, R: Wait>(
     rt: &R,
@@ -88,6 +96,7 @@ pub fn work<Q: HeldPort, S: ServesHeads, C: Closer<Q::Conn>, K: PortLedger, R: W
         mut share,
         short: _,
     } = worker;
+    tells_nothing::<C, Q::Conn>(&closer);
     let mut short = false;
     'links: for _ in rt.forever() {
         let Some(mut link) = take_next(rt, shared, &mut share) else {

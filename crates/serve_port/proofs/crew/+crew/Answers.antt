@@ -1,5 +1,4 @@
 use Rattle.std.proofs.Common.{rules, ◌≡◌, sym, subst, [], ◌∷◌, ◌++◌}
-use denote.Param.Send.{IsSync, IsSend}
 use Rattle.connection_items.specs.Answers.{LinkIsAnswered}
 use Rattle.serve_port.specs.Answered.{AllTellAnswered, TellsAnswered}
 use Rattle.serve_port.specs.Became.{Became, AllBecame}

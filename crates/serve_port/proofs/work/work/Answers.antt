@@ -1,4 +1,4 @@
-use Rattle.std.proofs.Common.{◌≡◌, ◌+◌, ap, sym, ◌∙◌}
+use Rattle.std.proofs.Common.{◌+◌, refl, ap, sym, ◌∙◌}
 use Rattle.connection_items.specs.Answers.{LinkIsAnswered}
 use Rattle.serve_port.specs.Became.{became_itself, became_more}
 use Rattle.serve_port.proofs.Told.{answered_more, none_told}
@@ -14,8 +14,7 @@ links-init g c =
       count = c.requires.closer ∙ sym c.requires.share.1;
       ready = c.requires.ready;
       became = became_itself (g.S.ServesHeads.standing c.args.worker.server);
-      answered = λ whole. none_told answered (g.C.Closer.told c.args.worker.closer)
-          (g.C.Closer.count c.args.worker.closer) c.requires.closer (g.met.C.Closer.tells_all c.args.worker.closer);
+      answered = λ whole. none_told answered (g.C.Closer.told c.args.worker.closer) 0 refl c.tells_nothing.ensures;
     }
 
 pub links-preserved : goal.links-preserved
@@ -31,7 +30,7 @@ links-preserved g c =
       ready = served.ready;
       became = became_more _ _ _ c.links.invariant.became served.became;
       answered = λ whole.
-          let both = c.either.ensures whole in
+          let both = c.either-short.ensures whole in
           answered_more answered (g.C.Closer.told c.links.closer) (g.C.Closer.told c.close.new.self)
           c.serve_link-fell.new.link c.serve_link-fell.result c.close.ensures.told (c.links.invariant.answered both.0)
           served.answered both.1;
