@@ -1,5 +1,0 @@
-//! Tests of `serve_port`: workers side by side, over a port and links in memory.
-#![tactic(auto)]
-
-#[cfg(test)]
-mod tests;
