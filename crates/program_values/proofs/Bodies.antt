@@ -282,7 +282,8 @@ module _ (index : Index) (rows : BuiltIns) (K : Task → Option Value) (all : Al
       fold-roll-Expr Eval PartEval (expr_layer index rows d here) (part_layer index rows) x,
     ) (expr_layer_keeps k)
 
-    rolled_part : (x : Part-F Expr Part) → PartLevelKeeps x → PartKeeps (part_by c (roll-Part x)) (part_by d (roll-Part x))
+    rolled_part : (x : Part-F Expr Part) → PartLevelKeeps x →
+        PartKeeps (part_by c (roll-Part x)) (part_by d (roll-Part x))
     rolled_part x k = rw (
       fold-roll-Part Eval PartEval (expr_layer index rows c here) (part_layer index rows) x,
       fold-roll-Part Eval PartEval (expr_layer index rows d here) (part_layer index rows) x,
@@ -365,7 +366,8 @@ module _ (index : Index) (rows : BuiltIns) (K : Task → Option Value) (all : Al
     stmt_layer_keeps (at_expr {x}) state st = bind_keeps index K all (evals x state st)
         (λ v h. pure_keeps index K all (GoesOn state v) (st, h))
     stmt_layer_keeps (at_set {name} {x}) state st = begins (bind_keeps index K all (evals x state st)
-        (λ v h. pure_keeps index K all (GoesOn (record { self = state.self; locals = with_local state.locals name v }) v)
+        (λ v h. pure_keeps index K all
+        (GoesOn (record { self = state.self; locals = with_local state.locals name v }) v)
         ((st.0, locals_stand index state.locals name v st.1 h), h)))
     stmt_layer_keeps (at_set_ivar {name} {x}) state st = begins (bind_keeps index K all (evals x state st)
         (λ v h. pure_keeps index K all (GoesOn (record { self = with_ivar state.self name v; locals = state.locals }) v)
@@ -461,7 +463,8 @@ module _ (index : Index) (rows : BuiltIns) (K : Task → Option Value) (all : Al
       bind_keeps index K all (ancestors_keep index rows K all here path) (λ members h. pure_keeps index K all _ tt)
 
   singleton_at_keeps : (here : Here) (path : Path) (name : Name) (place : Place) →
-      Keeps index K all Any (singleton_at index rows here path name place) (singleton_at index rows here path name place)
+      Keeps index K all Any (singleton_at index rows here path name place)
+      (singleton_at index rows here path name place)
   singleton_at_keeps here path name Missing = pure_keeps index K all None tt
   singleton_at_keeps here path name Implicit = pure_keeps index K all None tt
   singleton_at_keeps here path name (Owned file (Faulty error)) = pure_keeps index K all None tt

@@ -9,7 +9,8 @@ use Rattle.ruby_types.specs.declared.request.RubyError.{RubyError}
 use Rattle.ruby_types.specs.declared.request.Task.{Task}
 use Rattle.program_places.specs.Places.{Index}
 use Rattle.ruby_runs.specs.declared.NoReply.{NoReply}
-use Rattle.ruby_runs.specs.Doing.{Meaning, Going, Doing, Here, pure, ◌>>=◌, ◌>>◌, ends, raise, fail, turn, paid, pay, ask}
+use Rattle.ruby_runs.specs.Doing.{Meaning, Going, Doing, Here, pure, ◌>>=◌, ◌>>◌, ends, raise, fail, turn, paid}
+use Rattle.ruby_runs.specs.Doing.{pay, ask}
 use Rattle.program_values.specs.Standing.{Stands, AllStand}
 
 -- nothing is said of a result
@@ -64,7 +65,8 @@ module _ (index : Index) (K : Task → Option Value) (all : AllStand index K) wh
   end_keeps end = record { run = λ turns go next each. (refl, tt) }
 
   turn_runs : (here : Here) (turns : ℕ) (go next : Going (Unit {0})) →
-      ((u : Unit {0}) (left : ℕ) → Any u → Agree (go u left) (next u left)) → Agree (turn here turns go) (turn here turns next)
+      ((u : Unit {0}) (left : ℕ) → Any u → Agree (go u left) (next u left)) →
+      Agree (turn here turns go) (turn here turns next)
   turn_runs here zero go next each = (refl, tt)
   turn_runs here (suc left) go next each = each tt left tt
 
@@ -80,7 +82,8 @@ module _ (index : Index) (K : Task → Option Value) (all : AllStand index K) wh
 
   -- several turns
   pub pay_keeps : (here : Here) (cost : ℕ) → Keeps Any (pay here cost) (pay here cost)
-  pay_keeps here cost = record { run = λ turns go next each. paid_runs here (nat_le cost turns) (turns - cost) go next each }
+  pay_keeps here cost =
+      record { run = λ turns go next each. paid_runs here (nat_le cost turns) (turns - cost) go next each }
 
   asked_runs : (t : Task) (f g : Value → Outcome Task Value RubyError NoReply) →
       ((v : Value) → Stands index v → (f v ≡ g v) × EndStands (f v).answer) → (o : Option Value) → K t ≡ o →

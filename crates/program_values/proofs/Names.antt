@@ -122,7 +122,8 @@ module _ (index : Index) (rows : BuiltIns) (K : Task → Option Value) (all : Al
       Keeps index K all FoundStands (refer index rows here path) (refer index rows here path)
   refer_keeps here path h = refer_at_keeps here path (index.place path) refl h
 
-  or_else_keeps : (found : Option Path) (other : Doing Path) → MaybeThere found → Keeps index K all IsThere other other →
+  or_else_keeps : (found : Option Path) (other : Doing Path) → MaybeThere found →
+      Keeps index K all IsThere other other →
       Keeps index K all IsThere (or_else index rows found other) (or_else index rows found other)
   or_else_keeps None other h k = k
   or_else_keeps (Some path) other h k = pure_keeps index K all path h

@@ -151,13 +151,15 @@ module _ (index : Index) (rows : BuiltIns) (limits : Limits) (other : Call) (K :
       bind_keeps index K all (all_members_keeps file more named.1) (λ lists g.
       pure_keeps index K all (members ∷ lists) (h, g)))
 
-  ancestors_of_keeps : (file : List ℕ) (path : Path) (opening : Opening) → index.place path ≡ Owned file (Opened opening) →
+  ancestors_of_keeps : (file : List ℕ) (path : Path) (opening : Opening) →
+      index.place path ≡ Owned file (Opened opening) →
       Keeps index K all (Stands index) (ancestors_of index rows limits file path opening)
       (ancestors_of index rows limits file path opening)
   ancestors_of_keeps file path opening is =
       bind_keeps index K all
       (parent_members_keeps file opening.parent (λ mention e. written.parent path file opening mention is e))
-      (λ parent p. bind_keeps index K all (all_members_keeps file opening.includes (written.includes path file opening is))
+      (λ parent p. bind_keeps index K all
+      (all_members_keeps file opening.includes (written.includes path file opening is))
       (λ includes i. pure_keeps index K all _ (array_stands index _ (modules_stand index _
       (paths_added index _ parent (lists_added index (path ∷ []) includes (ap is_module_at is, tt) i) p)))))
 
@@ -203,7 +205,8 @@ module _ (index : Index) (rows : BuiltIns) (limits : Limits) (other : Call) (K :
         Keeps index K all (Stands index) (controlled index rows limits request path)
         (guarded_controlled index rows limits other request path)
     controlled_keeps path = either_keeps index K all (index.has_file path)
-        (λ is. bind_keeps index K all (refer_keeps index rows K all (request_here limits) path (written.spelled path is))
+        (λ is. bind_keeps index K all (refer_keeps index rows K all (request_here limits) path
+        (written.spelled path is))
         (λ found h. action_of_keeps path found.value h.value (out-Value found.value)))
         (λ is. end_keeps index K all (NoController path))
 

@@ -8,7 +8,8 @@ use Rattle.ruby_types.specs.declared.request.Task.{Task}
 use Rattle.ruby_types.specs.declared.request.Task.TheVariants as task
 use Rattle.ruby_builtin_base.specs.declared.called.Called.TheVariants as called
 use Rattle.program_places.specs.Paths.{Name, Path}
-use Rattle.program_places.specs.Places.{Index, Place, Missing, Implicit, Owned, Faulty, Assigned, Opened, Opening, Mention}
+use Rattle.program_places.specs.Places.{Index, Place, Missing, Implicit, Owned, Faulty, Assigned, Opened, Opening}
+use Rattle.program_places.specs.Places.{Mention}
 use Rattle.program_places.specs.Tasks.{EachIs}
 use Rattle.ruby_runs.specs.BuiltIns.{BuiltIns}
 use Rattle.ruby_runs.specs.Bodies.{is_class_at}
