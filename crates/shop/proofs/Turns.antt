@@ -1,0 +1,151 @@
+-- What a pass holds after a turn.
+use Rattle.std.proofs.Common.{◌≡◌, ◌≢◌, ℕ, ◌<◌, ◌≤◌, List, [], ◌∷◌, ◌++◌, Option, Some, None, refl, sym, ap, ◌∙◌, subst}
+use Rattle.std.proofs.Common.{append_assoc, ◌⊎◌, inl, inr, Bool, true, false, if◌then◌else◌, nat_le, length, max, arith}
+use Rattle.std.proofs.Math.Nat.{max-eq_left, max-eq_right}
+use Rattle.turn_lock.specs.Entries.{NoneOf, Lags, Begins, longer}
+use Rattle.turn_lock.specs.Tickets.{TicketView, GainsOne, after_leaving, split_ticket}
+use Rattle.turn_lock.proofs.Histories.{none-append, lags_refl, lags-trans}
+use Rattle.system_events.specs.declared.event.Entry.{Entry}
+use Rattle.system_events.specs.declared.event.Kept.{Kept}
+use Rattle.system_events.specs.Facts.{Facts}
+use Rattle.system_events.specs.State.{State}
+use Rattle.system_events.specs.Legal.{after, IsLegal, IsAfter}
+use Rattle.shop_base.specs.declared.row.PassRow.{PassRow}
+use Rattle.shop_base.specs.Rows.{seat_row, at_rest}
+use Rattle.shop_base.specs.Passes.{PassView, seat_of, entry, moved, Made}
+use Rattle.shop_base.proofs.Later.{lags_row, unused_row, generation_of_longer}
+use Rattle.shop_desk.specs.Ledgers.{Ledger, desk_row, OneMore}
+use Rattle.shop.specs.Held.{pass_view, IsHeld}
+
+-- one of two lists has what both have
+longer_is : {A : Type 0} (Holds : List A → Type 0) (a b : List A) → Holds a → Holds b → Holds (longer a b)
+longer_is Holds a b at_a at_b = by (nat_le (length b) (length a))
+  where
+    by : (t : Bool) → Holds (if t then a else b)
+    by true = at_a
+    by false = at_b
+
+module _ {M T V P Q R F : Type 0} (f : Facts T V P Q R F) where
+  -- after a turn that left this desk
+  pub held_left : (d : Ledger M T V P Q R F)
+      (t left : TicketView (Ledger M T V P Q R F) (Entry M T V P Q R F) PassRow) (number : ℕ)
+      (sought : Option T) → left ≡ after_leaving (λ x. x.state.history) desk_row d t →
+      IsAfter f 64 d.state → number ≡ d.state.counts.generation → IsHeld f left number sought
+  held_left d t left number sought is_left is number_is =
+      subst (λ (x : TicketView (Ledger M T V P Q R F) (Entry M T V P Q R F) PassRow). IsHeld f x number sought)
+      (sym is_left) (record {
+        idle = refl;
+        pass = record {
+          legal = is.legal;
+          row = ap (λ (s : State M T V P Q R F). seat_row s.seats t.number) is.state;
+        };
+        generation = number_is ∙ ap (λ (s : State M T V P Q R F). s.counts.generation) is.state;
+      })
+
+  -- a pass that is split off
+  pub held_split : (t new : TicketView (Ledger M T V P Q R F) (Entry M T V P Q R F) PassRow)
+      (number : ℕ) (sought : Option T) → IsHeld f t number sought → new ≡ split_ticket at_rest t →
+      NoneOf seat_of t.next t.seen → IsHeld f new number None
+  held_split t new number sought held is none =
+      subst (λ (x : TicketView (Ledger M T V P Q R F) (Entry M T V P Q R F) PassRow). IsHeld f x number None)
+      (sym is) (record {
+        idle = refl;
+        pass = record {
+          legal = held.pass.legal;
+          row = sym (unused_row f 64 t.next t.seen none);
+        };
+        generation = held.generation;
+      })
+
+  -- the pass that took in another one
+  pub held_joined : (t other new : TicketView (Ledger M T V P Q R F) (Entry M T V P Q R F) PassRow)
+      (number theirs longest : ℕ) (sought their_sought : Option T) → IsHeld f t number sought →
+      IsHeld f other theirs their_sought → new ≡ record t { seen = longer t.seen other.seen } →
+      Lags seat_of t.number t.seen new.seen → Begins other.seen new.seen → longest ≡ max number theirs →
+      IsHeld f new longest sought
+  held_joined t other new number theirs longest sought their_sought held held_other is new_lags new_begins is_max =
+      let seen : List (Entry M T V P Q R F) = longer t.seen other.seen in
+      let seen_is : new.seen ≡ seen =
+      ap (λ (x : TicketView (Ledger M T V P Q R F) (Entry M T V P Q R F) PassRow). x.seen) is in
+      let lags : Lags seat_of t.number t.seen seen = subst (Lags seat_of t.number t.seen) seen_is new_lags in
+      let begins_it : Begins other.seen seen = subst (Begins other.seen) seen_is new_begins in
+      let legal : IsLegal f 64 seen =
+      longer_is (IsLegal f 64) t.seen other.seen held.pass.legal held_other.pass.legal in
+      let mine = generation_of_longer f 64 t.seen seen held.pass.legal (lags.more, lags.is) in
+      let others = generation_of_longer f 64 other.seen seen held_other.pass.legal begins_it in
+      let either : ((after f 64 seen).counts.generation ≡ (after f 64 t.seen).counts.generation)
+      ⊎ ((after f 64 seen).counts.generation ≡ (after f 64 other.seen).counts.generation) =
+      longer_is (λ l. ((after f 64 l).counts.generation ≡ (after f 64 t.seen).counts.generation)
+      ⊎ ((after f 64 l).counts.generation ≡ (after f 64 other.seen).counts.generation)) t.seen other.seen
+      (inl refl) (inr refl) in
+      let mine_is = held.generation in
+      let theirs_is = held_other.generation in
+      subst (λ (x : TicketView (Ledger M T V P Q R F) (Entry M T V P Q R F) PassRow). IsHeld f x longest sought)
+      (sym is) (record {
+        idle = held.idle;
+        pass = record {
+          legal = legal;
+          row = held.pass.row ∙ sym (lags_row f 64 t.number t.seen seen held.pass.legal lags);
+        };
+        generation = elim either [
+          | inl e ↦ is_max ∙ (max-eq_left (omega (arith, e, mine_is, theirs_is, others)) ∙ (mine_is ∙ sym e))
+          | inr e ↦ is_max ∙ (max-eq_right (omega (arith, e, mine_is, theirs_is, mine)) ∙ (theirs_is ∙ sym e))
+        ];
+      })
+
+module _ {M T V P Q R F : Type 0} where
+  -- what a desk gained, as the lock asks for it
+  pub gains_one : (before d : Ledger M T V P Q R F)
+      (t entered : TicketView (Ledger M T V P Q R F) (Entry M T V P Q R F) PassRow) (n : ℕ) →
+      entered ≡ record t { seen = before.state.history; turn = Some before } → n ≡ t.number → OneMore n before d →
+      GainsOne (λ x. x.state.history) seat_of entered d
+  gains_one before d t entered n is same one =
+      let seen_is : entered.seen ≡ before.state.history =
+      ap (λ (x : TicketView (Ledger M T V P Q R F) (Entry M T V P Q R F) PassRow). x.seen) is in
+      let number_is : entered.number ≡ t.number =
+      ap (λ (x : TicketView (Ledger M T V P Q R F) (Entry M T V P Q R F) PassRow). x.number) is in
+      elim one [
+        | inl kept ↦ inl (kept ∙ sym seen_is)
+        | inr more ↦
+            inr (more.0, more.1 ∙ (same ∙ sym number_is), more.2 ∙ ap (λ l. l ++ more.0 ∷ []) (sym seen_is))
+      ]
+
+  -- a turn that left the desk as it was handed it left the pass as it was, but for what it has seen
+  pub unmoved : (before d : Ledger M T V P Q R F)
+      (t entered left : TicketView (Ledger M T V P Q R F) (Entry M T V P Q R F) PassRow) (sought : Option T)
+      (p : PassView M T V P Q R F) → pass_view t sought ≡ p →
+      entered ≡ record t { seen = before.state.history; turn = Some before } →
+      left ≡ after_leaving (λ x. x.state.history) desk_row d entered →
+      Lags seat_of t.number t.seen before.state.history → desk_row before t.number ≡ t.row → d ≡ before →
+      (pass_view left sought ≡ moved p p.row left.seen) × Lags seat_of p.number p.seen left.seen
+  unmoved before d t entered left sought p view_is is_entered is_left lags row_is same =
+      let whole : left ≡ after_leaving (λ x. x.state.history) desk_row before
+      (record t { seen = before.state.history; turn = Some before }) =
+      is_left ∙ (λ i. after_leaving (λ (x : Ledger M T V P Q R F). x.state.history) desk_row (same i) (is_entered i)) in
+      let seen_is : left.seen ≡ before.state.history =
+      ap (λ (x : TicketView (Ledger M T V P Q R F) (Entry M T V P Q R F) PassRow). x.seen) whole in
+      subst (λ (x : PassView M T V P Q R F).
+      (pass_view left sought ≡ moved x x.row left.seen) × Lags seat_of x.number x.seen left.seen) view_is (
+        ap (λ (x : TicketView (Ledger M T V P Q R F) (Entry M T V P Q R F) PassRow). pass_view x sought) whole
+            ∙ (λ i. moved (pass_view t sought) (row_is i) (sym seen_is i)),
+        subst (Lags seat_of t.number t.seen) (sym seen_is) lags,
+      )
+
+  -- entries of others after entries of others
+  pub lags_later : (k : ℕ) (a b c : List (Entry M T V P Q R F)) → Lags seat_of k a b → Lags seat_of k b c →
+      Lags seat_of k a c
+  lags_later k a b c first second = lags-trans seat_of k a b c first second
+
+  -- nothing was seen since
+  pub lags_self : (k : ℕ) (a : List (Entry M T V P Q R F)) → Lags seat_of k a a
+  lags_self k a = lags_refl seat_of k a
+
+  -- an event after entries of others
+  pub made_later : (k : ℕ) (kept : Kept M T V P Q R F) (a b c : List (Entry M T V P Q R F)) →
+      Lags seat_of k a b → Made k kept b c → Made k kept a c
+  made_later k kept a b c lags made = record {
+    between = lags.more ++ made.between;
+    is = made.is ∙ ap (λ l. l ++ entry k kept ∷ [])
+        (ap (λ l. l ++ made.between) lags.is ∙ append_assoc a lags.more made.between);
+    none = none-append seat_of k lags.more made.between lags.none made.none;
+  }

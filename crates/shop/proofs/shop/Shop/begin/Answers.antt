@@ -1,0 +1,17 @@
+use Rattle.shop.proofs.Turns.{held_left, gains_one}
+use Rattle.shop.proofs.shop.Shop.begin.Goals as goal
+
+pub invariant_of-pass : goal.invariant_of-pass
+invariant_of-pass g c =
+    held_left g.M.Matter.facts c.begin-begun.new.self c.enter-desk.new.ticket c.leave.new.ticket c.leave.new.generation
+    c.pass.inside.sought c.leave.ensures.left c.leave.ensures.after c.leave.ensures.generation
+
+pub leave-requires-clause-entry : goal.leave-requires-clause-entry
+leave-requires-clause-entry g c =
+    gains_one c.enter-desk.result c.begin-begun.new.self c.pass.inside.ticket c.enter-desk.new.ticket
+    c.number-number.result c.enter-desk.ensures.turn c.number-number.ensures.same c.begin-begun.ensures.gained
+
+pub invariant_of-pass-in-Err : goal.invariant_of-pass-in-Err
+invariant_of-pass-in-Err g c =
+    held_left g.M.Matter.facts c.begin-begun.new.self c.enter-desk.new.ticket c.leave.new.ticket
+    c.leave.new.generation c.pass.inside.sought c.leave.ensures.left c.leave.ensures.after c.leave.ensures.generation

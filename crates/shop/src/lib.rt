@@ -1,0 +1,38 @@
+//! One system that many threads share: a `Shop`, and the passes with which they call it.
+//!
+//! Each call takes turns of the turn lock. In a turn it enters at most one event of its own seat, and what it says is
+//! an equation on the pass: what it has seen grew by entries of others and then by that event, and its row is this one.
+//! So a caller knows at its next turn what it knew at its last.
+//!
+//! | Call | Its events |
+//! |---|---|
+//! | `start_running`, `done_running` | Share; Unshare |
+//! | `begin`, `end`, `abandon` | Begin; End; Refuse for want of memory |
+//! | `split`, `join` | none |
+//!
+//! Who finds a share or the exclusive side busy sleeps until another turn has changed that (`Bell`). What closes
+//! something takes no memory and can't fail: its room was set aside by what opened it.
+//!
+//! # An example
+//!
+//! A pass of a new shop serves one request. It has seen the opening Reload, which is at place 0:
+//!
+//! | Call | Its row then | Entries set aside |
+//! |---|---|---|
+//! | `start_running` | shares | 1 |
+//! | `begin`, which answers 2 | runs the request whose Begin is at place 2 | 4 |
+//! | `end` | shares | 1 |
+//! | `done_running` | rests | 0 |
+#![tactic(auto)]
+
+mod bell;
+mod pass;
+mod receipt;
+mod running;
+mod shop;
+
+pub use pass::Pass;
+pub use receipt::Receipt;
+pub use shop::Shop;
+pub use shop_desk::BeginFault;
+pub use turn_lock::SplitFault;
