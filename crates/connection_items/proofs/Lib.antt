@@ -4,3 +4,4 @@ pub mod GainLaws
 pub mod Steps
 pub mod Complete
 pub mod Answered
+pub mod OneCause

@@ -15,6 +15,7 @@
 //! |---|---|
 //! | `Complete::complete` | where all heads are whole and nothing failed, all were answered |
 //! | `Answered::is_answered` | a connection that was served whole was answered |
+//! | `OneCause::one_cause` | the causes of ends that no fault, limit or want of memory made exclude one another |
 //! | `Steps` | one step of a worker keeps what holds between two heads, or ends the conversation |
 #![tactic(auto)]
 
