@@ -1,0 +1,4 @@
+pub mod OutcomeLaws
+pub mod ProgramLaws
+pub mod OneLaws
+pub mod StampLaws

@@ -1,0 +1,5 @@
+pub mod Faults
+pub mod Refusals
+pub mod Outcomes
+pub mod Program
+pub mod Stamps
