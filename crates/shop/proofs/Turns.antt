@@ -1,4 +1,5 @@
 -- What a pass holds after a turn.
+use Rattle.std.specs.Prelude.{Result, Ok, Err, IfOk, OnOk}
 use Rattle.std.proofs.Common.{◌≡◌, ◌≢◌, ℕ, ◌<◌, ◌≤◌, List, [], ◌∷◌, ◌++◌, Option, Some, None, refl, sym, ap, ◌∙◌, subst}
 use Rattle.std.proofs.Common.{append_assoc, ◌⊎◌, inl, inr, Bool, true, false, if◌then◌else◌, nat_le, length, max, arith}
 use Rattle.std.proofs.Math.Nat.{max-eq_left, max-eq_right}
@@ -131,6 +132,36 @@ module _ {M T V P Q R F : Type 0} where
         subst (Lags seat_of t.number t.seen) (sym seen_is) lags,
       )
 
+  -- the pass's row before and after a turn, as the desks have it
+  pub turn_rows : (before d : Ledger M T V P Q R F)
+      (t entered left : TicketView (Ledger M T V P Q R F) (Entry M T V P Q R F) PassRow) (sought : Option T)
+      (p : PassView M T V P Q R F) (n : ℕ) → pass_view t sought ≡ p →
+      entered ≡ record t { seen = before.state.history; turn = Some before } →
+      left ≡ after_leaving (λ x. x.state.history) desk_row d entered → desk_row before t.number ≡ t.row →
+      n ≡ t.number → (left.row ≡ desk_row d n) × (desk_row before n ≡ p.row)
+  turn_rows before d t entered left sought p n view_is is_entered is_left row_is same = (
+    ap (λ (x : TicketView (Ledger M T V P Q R F) (Entry M T V P Q R F) PassRow). x.row) is_left
+        ∙ (ap (λ (x : TicketView (Ledger M T V P Q R F) (Entry M T V P Q R F) PassRow). desk_row d x.number) is_entered
+        ∙ ap (desk_row d) (sym same)),
+    ap (desk_row before) same ∙ (row_is ∙ ap (λ (x : PassView M T V P Q R F). x.row) view_is),
+  )
+
+  -- a turn in which the desk gained this entry of the pass
+  pub made_turn : (before d : Ledger M T V P Q R F)
+      (t entered left : TicketView (Ledger M T V P Q R F) (Entry M T V P Q R F) PassRow) (sought : Option T)
+      (p : PassView M T V P Q R F) (n : ℕ) (kept : Kept M T V P Q R F) → pass_view t sought ≡ p →
+      left ≡ after_leaving (λ x. x.state.history) desk_row d entered →
+      Lags seat_of t.number t.seen before.state.history → n ≡ t.number →
+      d.state.history ≡ before.state.history ++ entry n kept ∷ [] → Made p.number kept p.seen left.seen
+  made_turn before d t entered left sought p n kept view_is is_left lags same gained =
+      let seen_is : left.seen ≡ d.state.history =
+      ap (λ (x : TicketView (Ledger M T V P Q R F) (Entry M T V P Q R F) PassRow). x.seen) is_left in
+      subst (λ (x : PassView M T V P Q R F). Made x.number kept x.seen left.seen) view_is (record {
+        between = lags.more;
+        is = seen_is ∙ (gained ∙ (λ i. lags.is i ++ entry (same i) kept ∷ []));
+        none = lags.none;
+      })
+
   -- entries of others after entries of others
   pub lags_later : (k : ℕ) (a b c : List (Entry M T V P Q R F)) → Lags seat_of k a b → Lags seat_of k b c →
       Lags seat_of k a c
@@ -149,3 +180,13 @@ module _ {M T V P Q R F : Type 0} where
         (ap (λ l. l ++ made.between) lags.is ∙ append_assoc a lags.more made.between);
     none = none-append seat_of k lags.more made.between lags.none made.none;
   }
+
+-- what follows of what was given holds where something was given
+pub on_ok_if : {A E : Type 0} (r : Result A E) (P : A → Type 0) (Q : Type 0) → ((a : A) → P a → Q) → IfOk r P → OnOk r Q
+on_ok_if (Ok a) P Q follows is = follows a is
+on_ok_if (Err e) P Q follows is = tt
+
+-- the same, of what was given
+pub if_ok_map : {A E : Type 0} (r : Result A E) (P Q : A → Type 0) → ((a : A) → P a → Q a) → IfOk r P → IfOk r Q
+if_ok_map (Ok a) P Q follows is = follows a is
+if_ok_map (Err e) P Q follows is = tt

@@ -7,7 +7,8 @@
 //! | Call | Its events |
 //! |---|---|
 //! | `start_running`, `done_running` | Share; Unshare |
-//! | `begin`, `end`, `abandon` | Begin; End; Refuse for want of memory |
+//! | `begin`, `end`, `refuse`, `abandon` | Begin; End; Refuse; Refuse for want of memory |
+//! | `permit_begin`, `permit_end` | Yield; Retake |
 //! | `split`, `join` | none |
 //!
 //! Who finds a share or the exclusive side busy sleeps until another turn has changed that (`Bell`). What closes
@@ -27,6 +28,7 @@
 
 mod bell;
 mod pass;
+mod permits;
 mod receipt;
 mod running;
 mod shop;

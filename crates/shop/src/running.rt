@@ -1,10 +1,11 @@
 //! Sharing, and the requests that run.
 ghost use Rattle.std.specs.Prelude.{◌≡◌, ◌<◌, ◌≤◌, ◌∷◌, [], ℕ, ◌+◌, true, false, length, IfOk, IfErr, OnOk, OnErr, Ok};
+ghost use Rattle.std.specs.Prelude.{None, ◌≢◌};
 ghost use Rattle.turn_lock.specs.Entries.{Lags};
 ghost use Rattle.system_events.specs.declared.event.Kept.{Kept};
 ghost use Rattle.system_events.specs.declared.event.Cause.{Cause};
 ghost use Rattle.system_events.specs.Guards.{request_limits};
-ghost use Rattle.system_events.specs.Steps.{Condition};
+ghost use Rattle.system_events.specs.Steps.{Condition, IsCause};
 ghost use Rattle.shop_base.specs.Rows.{resting, sharing_seat, running_seat, IsRunning, with_room, at_rest};
 ghost use Rattle.shop_base.specs.Passes.{seat_of, seen_state, moved, Made};
 ghost use Rattle.shop_desk.specs.Limits.{IsLimit};
@@ -15,7 +16,7 @@ use crate::shop::Shop;
 use shop_desk::BeginFault;
 use std::alloc::AllocError;
 use std::sync::Wait;
-use system_core::Matter;
+use system_core::{Cause, Matter};
 
 impl<M: Matter> Shop<M> {
     /// Shares, as soon as a share isn't busy. It sets room aside for the end of it.
@@ -178,5 +179,31 @@ impl<M: Matter> Shop<M> {
         let mut desk = self.lock.enter(rt, &mut pass.ticket);
         desk.abandon(number);
         self.leave(&mut pass.ticket, &mut pass.generation, desk);
+    }
+
+    /// Enters the refusal of a request that isn't begun, for another cause than want of memory, and answers its place.
+    pub fn refuse<R: Wait>(
+        &self,
+        rt: &R,
+        pass: &mut Pass<M>,
+        cause: Cause<M>,
+    ) -> Result<u64, BeginFault>
+        requires own { pass.old.shop ≡ self.now }
+        requires idle { pass.old.row.seat.running ≡ None }
+        requires other { cause ≢ Cause.Memory }
+        requires cause { IsCause M.facts cause }
+        ensures same { pass.new ≡ moved pass.old pass.old.row pass.new.seen }
+        ensures made { OnOk result (Made pass.old.number (Kept.Refuse cause) pass.old.seen pass.new.seen) }
+        // The place is that of the last entry seen.
+        ensures place { IfOk result (λ place. length pass.new.seen ≡ place + 1) }
+        // Where it answers a limit, that limit is met after what was seen then.
+        ensures limit { IfErr result (IsLimit (request_limits (seen_state M.facts pass.new).counts)) }
+        ensures refused { OnErr result (Lags seat_of pass.old.number pass.old.seen pass.new.seen) }
+    {
+        let number = pass.ticket.number();
+        let mut desk = self.lock.enter(rt, &mut pass.ticket);
+        let refused = desk.refuse(number, cause);
+        self.leave(&mut pass.ticket, &mut pass.generation, desk);
+        refused
     }
 }
