@@ -2,7 +2,8 @@
 //! questions each, where each task ends by a value, an error or an end of the other kind. And loads that nest deep.
 use by_need_graph::rounds::Answer;
 use by_need_graph::{
-    Body, Ending, Graph, Values, check_alone, known_values, load_alone, load_beside_rounds, run_task,
+    Body, Ending, Graph, Values, check_alone, known_values, load_alone, load_beside_rounds,
+    run_task,
 };
 use by_need_loader::{Failure, Loaded};
 use std::alloc::{AllocError, Global};
@@ -310,7 +311,11 @@ fn all_tasks_are_checked_though_some_fail(rt: HostRuntime) -> Result<(), Fail> {
     let questions = [[1, 2].as_slice(), &[], &[4], &[4], &[3], &[1]];
     let mut bodies = Vec::new(alloc);
     for (task, asked) in questions.iter().enumerate() {
-        let ending = if task == 5 { Ending::Fail(7) } else { Ending::Sum };
+        let ending = if task == 5 {
+            Ending::Fail(7)
+        } else {
+            Ending::Sum
+        };
         let questions = Vec::from_slice(alloc, asked)?;
         bodies.push(Body { questions, ending })?;
     }

@@ -90,7 +90,7 @@ pub keyword_of_file : (path : Path) (fs : List UsedFile) (k : ℕ) (kind : OwnKi
 keyword_of_file path fs k kind e h =
     let f = file_at_first path fs k e in
     let own_there : Some kind ≡ Some (own_of f.file) = sym h ∙ slice_get-map own_of fs k ∙ ap (option_map own_of)
-        f.at in
+    f.at in
     same_Some kind (own_of f.file) own_there
     ∙ ap (λ p. own_kind (kind_in (entries f.file) p)) f.constant
     ∙ ap (λ o. own_kind (keyword_by o path)) (sym f.is)

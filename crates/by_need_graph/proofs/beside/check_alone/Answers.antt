@@ -10,7 +10,7 @@ check_tasks-requires-clause-tasks c =
     let len = c.len-count.ensures in
     let ok = c.args.graph.now.bodies.ok.0 in
     let same : c.len-count.result ≡ length c.args.graph.now.bodies.items = omega (arith, len, ok) in
-    below_are_tasks c.args.graph.now.bodies.items c.args.tasks.now 
+    below_are_tasks c.args.graph.now.bodies.items c.args.tasks.now
     (subst (λ count. questions_below count c.args.tasks.now ≡ true) same below)
 
 pub check_tasks-requires-clause-part : goal.check_tasks-requires-clause-part
