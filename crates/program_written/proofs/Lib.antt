@@ -1,0 +1,4 @@
+pub mod Deeds
+pub mod Written
+pub mod Owners
+pub mod Standing
