@@ -15,14 +15,14 @@ use Rattle.ruby_grammar.specs.Terminals.{kind_terminal, is_assign}
 use Rattle.ruby_grammar.specs.Choices.{next_is}
 use Rattle.ruby_parse_cursor.proofs.Codes.{name_is_low}
 
-low : (n : ℕ) → n < 48 → false ≡ (n == 89)
-low n h = grind (arith, nat_tests)
+low_is_no_assign : (n : ℕ) → n < 48 → false ≡ (n == 89)
+low_is_no_assign n h = grind (arith, nat_tests)
 
 -- What is no operator is no `=`.
 pub no_assign : (kind : TokenKind) (text : List ℕ) → ((op : Op) → kind ≡ k.Op op → ⊥) →
     false ≡ (kind_terminal kind text == 89)
 no_assign k.Line text h = refl
-no_assign k.Name text h = low _ (name_is_low text)
+no_assign k.Name text h = low_is_no_assign _ (name_is_low text)
 no_assign k.Const text h = refl
 no_assign k.Ivar text h = refl
 no_assign k.Label text h = refl

@@ -1,8 +1,8 @@
 -- The code that the table gives a name is the name's terminal.
-use Rattle.std.proofs.Common.{◌≡◌, ℕ, zero, suc, Bool, true, ◌&&◌, ◌==◌, List, [], ◌∷◌, Option, Some, None, slice_get}
-use Rattle.std.proofs.Common.{refl, sym, subst, ◌∙◌, arith}
-use Rattle.std.proofs.lemmas.Bool.{and_parts, cases_Bool, cond-false}
-use Rattle.std.proofs.lemmas.Bool.Decides.{nat_tests}
+use Rattle.std.proofs.Common.{◌≡◌, ℕ, zero, suc, Bool, true, ◌&&◌, ◌==◌, List, [], ◌∷◌, Some, slice_get}
+use Rattle.std.proofs.Common.{refl, sym, subst, ◌∙◌}
+use Rattle.std.proofs.lemmas.Bool.{and_parts, cases_Bool, cond-false, eqb-true, ltb-true}
+use Rattle.std.proofs.lemmas.Option.{none-some, same_Some}
 use Rattle.std.proofs.lemmas.Slice.Eq.{bytes_eq-Decides}
 use Rattle.std.specs.Prelude.{bytes_eq, nat_lt}
 use Rattle.std.proofs.Common.{⊎_elim, ◌<◌, cond, false, lit<}
@@ -18,21 +18,12 @@ abbrev are_found : List Row → List Row → Bool
 are_found all [] = true
 are_found all (r ∷ rows) = (code_in all r.0 == r.1) && are_found all rows
 
-no_row : (P : Type 0) (r : Row) → ◌≡◌ {A = Option Row} None (Some r) → P
-no_row P r e = absurd (cc)
-
-one_row : (r s : Row) → ◌≡◌ {A = Option Row} (Some r) (Some s) → r ≡ s
-one_row r s e = cc
-
-same : (m n : ℕ) → (m == n) ≡ true → m ≡ n
-same m n h = grind (arith, nat_tests)
-
-found : (all rows : List Row) (i : ℕ) (r : Row) → are_found all rows ≡ true → slice_get rows i ≡ Some r →
+found_first : (all rows : List Row) (i : ℕ) (r : Row) → are_found all rows ≡ true → slice_get rows i ≡ Some r →
     code_in all r.0 ≡ r.1
-found all [] i r h e = no_row _ r e
-found all (x ∷ rows) zero r h e = subst (λ (q : Row). code_in all q.0 ≡ q.1) (one_row x r e)
-    (same (code_in all x.0) x.1 (and_parts _ _ h).0)
-found all (x ∷ rows) (suc i) r h e = found all rows i r (and_parts _ _ h).1 e
+found_first all [] i r h e = absurd (none-some r e)
+found_first all (x ∷ rows) zero r h e = subst (λ (q : Row). code_in all q.0 ≡ q.1) (same_Some x r e)
+    (eqb-true (code_in all x.0) x.1 (and_parts _ _ h).0)
+found_first all (x ∷ rows) (suc i) r h e = found_first all rows i r (and_parts _ _ h).1 e
 
 words_are_found : are_found word_rows word_rows ≡ true
 words_are_found = refl
@@ -43,7 +34,7 @@ pub has_code : (rows : List Row) (name : List ℕ) (code : ℕ) → rows ≡ wor
 has_code rows name code e h =
     let get : slice_get word_rows h.0 ≡ Some (name, code) =
     subst (λ (l : List Row). slice_get l h.0 ≡ Some (name, code)) e h.1 in
-    sym (found word_rows word_rows h.0 (name, code) words_are_found get)
+    sym (found_first word_rows word_rows h.0 (name, code) words_are_found get)
 
 none_in : (rows : List Row) (name : List ℕ) → HasNone rows name → code_in rows name ≡ 0
 none_in [] name h = refl
@@ -65,12 +56,9 @@ abbrev are_low : List Row → Bool
 are_low [] = true
 are_low (r ∷ rows) = nat_lt r.1 48 && are_low rows
 
-below : (m n : ℕ) → nat_lt m n ≡ true → m < n
-below m n h = grind (arith, nat_tests)
-
 low_in : (rows : List Row) (name : List ℕ) → are_low rows ≡ true → code_in rows name < 48
 low_in [] name h = lit< tt
-low_in (x ∷ rows) name h = low_if (bytes_eq x.0 name) x.1 (code_in rows name) (below x.1 48 (and_parts _ _ h).0)
+low_in (x ∷ rows) name h = low_if (bytes_eq x.0 name) x.1 (code_in rows name) (ltb-true x.1 48 (and_parts _ _ h).0)
     (low_in rows name (and_parts _ _ h).1)
 
 words_are_low : are_low word_rows ≡ true

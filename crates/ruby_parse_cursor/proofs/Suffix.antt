@@ -1,8 +1,7 @@
 -- The last byte of a name.
 use Rattle.std.proofs.Common.{◌≡◌, ℕ, zero, suc, ◌-◌, ◌≤◌, List, [], ◌∷◌, get_or, length, refl, sym, ◌∙◌, ap, subst}
-use Rattle.std.proofs.Common.{true, ◌==◌, ◌||◌, ⊎_elim, arith}
-use Rattle.std.proofs.lemmas.Bool.{cases_Bool}
-use Rattle.std.proofs.lemmas.Bool.Decides.{nat_tests}
+use Rattle.std.proofs.Common.{◌==◌, ◌||◌, ⊎_elim, arith}
+use Rattle.std.proofs.lemmas.Bool.{cases_Bool, eqb-true}
 use Rattle.ruby_token.specs.Bytes.{is_suffix}
 use Rattle.ruby_grammar.specs.Terminals.{ends_in_suffix}
 
@@ -17,22 +16,20 @@ pub last_byte : (xs : List ℕ) → 1 ≤ length xs → ends_in_suffix xs ≡ is
 last_byte [] h = absurd (omega (arith, h))
 last_byte (b ∷ bs) h = at bs b (length (b ∷ bs) - 1) (omega arith)
 
-same : (m n : ℕ) → (m == n) ≡ true → m ≡ n
-same m n h = grind (arith, nat_tests)
-
 -- A last byte that is `?` is a suffix.
-pub asks : (xs : List ℕ) → 1 ≤ length xs → get_or xs (length xs - 1) 0 ≡ 63 → (get_or xs (length xs - 1) 0 == 63)
+pub question_is_suffix : (xs : List ℕ) → 1 ≤ length xs → get_or xs (length xs - 1) 0 ≡ 63 →
+    (get_or xs (length xs - 1) 0 == 63)
     ≡ ends_in_suffix xs
-asks xs h e = subst (λ x. (x == 63) ≡ is_suffix x) (sym e) refl ∙ sym (last_byte xs h)
+question_is_suffix xs h e = subst (λ x. (x == 63) ≡ is_suffix x) (sym e) refl ∙ sym (last_byte xs h)
 
-warns : (g : ℕ) → (g ≡ 63 → ⊥) → (g == 33) ≡ is_suffix g
-warns g n =
+other_is_suffix : (g : ℕ) → (g ≡ 63 → ⊥) → (g == 33) ≡ is_suffix g
+other_is_suffix g n =
     ⊎_elim
-    (λ y. absurd (n (same g 63 y)))
+    (λ y. absurd (n (eqb-true g 63 y)))
     (λ e. ap (λ b. b || (g == 33)) (sym e))
     (cases_Bool (g == 63))
 
 -- Another last byte is a suffix where it is `!`.
-pub warns_or_not : (xs : List ℕ) → 1 ≤ length xs → (get_or xs (length xs - 1) 0 ≡ 63 → ⊥) →
+pub exclamation_is_suffix : (xs : List ℕ) → 1 ≤ length xs → (get_or xs (length xs - 1) 0 ≡ 63 → ⊥) →
     (get_or xs (length xs - 1) 0 == 33) ≡ ends_in_suffix xs
-warns_or_not xs h n = warns (get_or xs (length xs - 1) 0) n ∙ sym (last_byte xs h)
+exclamation_is_suffix xs h n = other_is_suffix (get_or xs (length xs - 1) 0) n ∙ sym (last_byte xs h)

@@ -1,7 +1,7 @@
 -- How what stands in brackets, and a constant, are read as primaries.
-use Rattle.std.proofs.Common.{◌≡◌, ◌⊎◌, inl, inr, ⊎_elim, ℕ, suc, Bool, true, false, ◌==◌, ◌||◌, ◌<◌, cond, length}
+use Rattle.std.proofs.Common.{◌≡◌, ◌⊎◌, ⊎_elim, ℕ, suc, true, false, ◌==◌, ◌||◌, ◌<◌, cond, length}
 use Rattle.std.proofs.Common.{List, [], ◌∷◌, drop, refl, sym, ap, ◌∙◌, subst, arith, Result, Ok, Err, None}
-use Rattle.std.proofs.lemmas.Bool.Decides.{nat_tests}
+use Rattle.std.proofs.lemmas.Bool.{eqb-true, or_cases}
 use Rattle.descent.specs.Grammar.{give, token, only}
 use Rattle.descent.specs.Reading.{Choice, take, nothing, head, choose, done, by_give}
 use Rattle.descent.proofs.Moves.{Moves, moves_token, moves_call}
@@ -26,17 +26,10 @@ use Rattle.ruby_parse_steps.proofs.Descent.{g_give, g_chosen, g_then, g_fails, g
 use Rattle.ruby_parse_steps.proofs.EnclosedLaws.{enclosed_reads, enclosed_breaks, enclosed_lacks_close}
 use Rattle.ruby_parse_steps.proofs.PrimaryLaws.{chosen_at, sees}
 
-is_same : (m n : ℕ) → (m == n) ≡ true → m ≡ n
-is_same m n h = grind (arith, nat_tests)
-
-either : (a b : Bool) → (a || b) ≡ true → (a ≡ true) ⊎ (b ≡ true)
-either true b e = inl refl
-either false b e = inr e
-
 -- the first word's terminal, where it passes
 pub terminal_is : (n : ℕ) (ws : List Word) → next_is (is n) (head ws) ≡ true → head_terminal ws ≡ n
 terminal_is n [] p = absurd (cc)
-terminal_is n (w ∷ ws) p = is_same (terminal w) n p
+terminal_is n (w ∷ ws) p = eqb-true (terminal w) n p
 
 -- and where it is a bracket that is no `[` and no `{`
 other_terminal : (n : ℕ) (ws : List Word) → (98 == n) ≡ false → next_is (is n) (head ws) ≡ false →
@@ -46,8 +39,8 @@ other_terminal n (w ∷ ws) o p = p
 
 left_paren : (n : ℕ) → opens_bracket n ≡ true → (n == 93) ≡ false → (n == 95) ≡ false → n ≡ 91
 left_paren n h p q =
-    ⊎_elim (λ ab. ⊎_elim (λ a. is_same n 91 a) (λ b. absurd (cc)) (either (n == 91) (n == 93) ab)) (λ c. absurd (cc))
-    (either ((n == 91) || (n == 93)) (n == 95) h)
+    ⊎_elim (λ ab. ⊎_elim (λ a. eqb-true n 91 a) (λ b. absurd (cc)) (or_cases (n == 91) (n == 93) ab)) (λ c. absurd (cc))
+    (or_cases ((n == 91) || (n == 93)) (n == 95) h)
 
 -- A bracket that is neither `[` nor `{` is `(`.
 pub is_paren : (ws : List Word) → opens_bracket (head_terminal ws) ≡ true → next_is is_open_bracket (head ws) ≡ false →
@@ -71,11 +64,11 @@ module _ (here : Scope) (ws : List Word) where
   pub bracket_deep : opens_bracket (head_terminal ws) ≡ true → here.levels ≡ 0 →
       GivesRule (primary here) ws (Err f.Deep) ws
   bracket_deep h l =
-      ⊎_elim (λ ab. ⊎_elim (λ a. deep_group l (is_same (head_terminal ws) 91 a))
-      (λ b. deep_array l (is_same (head_terminal ws) 93 b))
-      (either (head_terminal ws == 91) (head_terminal ws == 93) ab))
-      (λ c. deep_hash l (is_same (head_terminal ws) 95 c))
-      (either ((head_terminal ws == 91) || (head_terminal ws == 93)) (head_terminal ws == 95) h)
+      ⊎_elim (λ ab. ⊎_elim (λ a. deep_group l (eqb-true (head_terminal ws) 91 a))
+      (λ b. deep_array l (eqb-true (head_terminal ws) 93 b))
+      (or_cases (head_terminal ws == 91) (head_terminal ws == 93) ab))
+      (λ c. deep_hash l (eqb-true (head_terminal ws) 95 c))
+      (or_cases ((head_terminal ws == 91) || (head_terminal ws == 93)) (head_terminal ws == 95) h)
 
 module _ (here inner : Scope) (n : ℕ) (ws mid : List Word) (l : here.levels ≡ suc n) (i : inner ≡ at_levels here n)
     (d : mid ≡ drop 1 ws) where

@@ -1,5 +1,6 @@
 -- Steps of the reading by descent, as the functions of the parser take them.
 use Rattle.std.proofs.Common.{◌≡◌, Bool, true, false, List, [], ◌∷◌, drop, refl, sym, ap, ◌∙◌, subst, Result, Ok, Err}
+use Rattle.std.proofs.lemmas.Bool.{false≢true}
 use Rattle.descent.specs.Grammar.{Prod, give, token, call, only}
 use Rattle.descent.specs.Reading.{take, too_deep, nothing, head, choose, Outcome, done, fault, Why, Unexpected, Deep}
 use Rattle.descent.specs.Reading.{Barred, Twice, by_give, by_word, by_other, by_end, by_call, by_fault, by_depth}
@@ -12,9 +13,6 @@ use Rattle.ruby_parse_cursor.specs.declared.fault.Fault.{Fault}
 use Rattle.ruby_parse_cursor.specs.declared.fault.Fault.TheVariants as f
 use Rattle.ruby_parse_steps.specs.Gives.{Comes, Stops, Gives, GivesRule}
 
-impossible : {A : Type 0} → false ≡ true → A
-impossible e = cc
-
 -- a word that doesn't pass
 pub token_fails : {s : Sort} (test : Word → Bool) (next : Word → Prod ruby s) (ms : List Mark) (ws : List Word) →
     next_is test (head ws) ≡ false → Comes (token test next) ms ws (fault Unexpected ws)
@@ -25,7 +23,7 @@ token_fails test next ms (w ∷ ws) e = by_other e
 pub token_skips : {s : Sort} (test : Word → Bool) (next : Word → Prod ruby s) (ms : List Mark) (ws : List Word)
     (o : Outcome ruby s) →
     next_is test (head ws) ≡ true → ((w : Word) → Comes (next w) ms (drop 1 ws) o) → Comes (token test next) ms ws o
-token_skips test next ms [] o e go = impossible e
+token_skips test next ms [] o e go = absurd (false≢true e)
 token_skips test next ms (w ∷ ws) o e go = by_word e (go w)
 
 -- a rule whose production is chosen
@@ -88,7 +86,7 @@ pub stops_skips : {s : Sort} (test : Word → Bool) (next : Word → Prod ruby s
     (e : Fault) →
     next_is test (head ws) ≡ true → ((w : Word) → Stops (next w) ms (drop 1 ws) e rest) →
     Stops (token test next) ms ws e rest
-stops_skips test next ms [] rest e p go = impossible p
+stops_skips test next ms [] rest e p go = absurd (false≢true p)
 stops_skips test next ms (w ∷ ws) rest e p go = stops_word test next ms w ws rest e p (go w)
 
 -- A fault of the production that is chosen.
@@ -132,7 +130,7 @@ g_word test next w ws mid rest (Err d) e p g = λ ms. subst (λ l. Stops (token 
 
 front : (test : Word → Bool) (ws : List Word) → next_is test (head ws) ≡ true → (w : Word) × (ws ≡ w ∷ drop 1 ws)
     × (test w ≡ true)
-front test [] p = impossible p
+front test [] p = absurd (false≢true p)
 front test (w ∷ ws) p = (w, refl, p)
 
 -- A word that passes, whatever it is, and what follows it.

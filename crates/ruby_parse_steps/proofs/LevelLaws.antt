@@ -1,8 +1,8 @@
 -- How an expression of one level is one of a looser level.
-use Rattle.std.proofs.Common.{◌≡◌, ℕ, zero, suc, ◌+◌, ◌-◌, ◌<◌, ◌≤◌, Bool, true, false, ◌==◌, ◌||◌, List, [], ◌∷◌}
+use Rattle.std.proofs.Common.{◌≡◌, ℕ, zero, suc, ◌+◌, ◌-◌, ◌<◌, ◌≤◌, true, false, ◌==◌, ◌||◌, List, [], ◌∷◌}
 use Rattle.std.proofs.Common.{refl, sym, ap, ◌∙◌, subst, arith, lit<, Result, Ok, Err, nat_lt, ◌&&◌, ⊎_elim}
 use Rattle.std.specs.Prelude.{nat_le}
-use Rattle.std.proofs.lemmas.Bool.{cases_Bool}
+use Rattle.std.proofs.lemmas.Bool.{cases_Bool, or_from, ltb-true, eqb-true, both_ways, and_from}
 use Rattle.std.proofs.lemmas.Bool.Decides.{nat_tests}
 use Rattle.descent.specs.Reading.{head}
 use Rattle.ruby_types.specs.declared.tree.Expr.{Expr}
@@ -74,20 +74,20 @@ of_rank (suc (suc (suc (suc zero)))) = equalities
 of_rank (suc (suc (suc (suc (suc zero))))) = conjunctions
 of_rank (suc (suc (suc (suc (suc (suc n)))))) = disjunctions
 
-ranked : (level : Level) → of_rank (rank level) ≡ level
-ranked units = refl
-ranked products = refl
-ranked sums = refl
-ranked comparisons = refl
-ranked equalities = refl
-ranked conjunctions = refl
-ranked disjunctions = refl
+of_rank-rank : (level : Level) → of_rank (rank level) ≡ level
+of_rank-rank units = refl
+of_rank-rank products = refl
+of_rank-rank sums = refl
+of_rank-rank comparisons = refl
+of_rank-rank equalities = refl
+of_rank-rank conjunctions = refl
+of_rank-rank disjunctions = refl
 
 one_rank : (a b : Level) → rank a ≡ rank b → a ≡ b
-one_rank a b e = sym (ranked a) ∙ (ap of_rank e ∙ ranked b)
+one_rank a b e = sym (of_rank-rank a) ∙ (ap of_rank e ∙ of_rank-rank b)
 
-equal : (m n : ℕ) → m ≤ n → nat_lt m n ≡ false → m ≡ n
-equal m n h e = grind (arith, nat_tests)
+equal_from_not_less : (m n : ℕ) → m ≤ n → nat_lt m n ≡ false → m ≡ n
+equal_from_not_less m n h e = grind (arith, nat_tests)
 
 -- ---- the terminal of an operator
 -- Whether an operator of a level is at hand, by the terminal at hand.
@@ -108,38 +108,30 @@ operator_at equalities (w ∷ ws) = refl
 operator_at conjunctions (w ∷ ws) = refl
 operator_at disjunctions (w ∷ ws) = refl
 
-outside : (n k : ℕ) → nat_le 70 k ≡ true → nat_le k 83 ≡ true → (nat_le 70 n && nat_le n 83) ≡ false → (n == k) ≡ false
-outside n k h g e =
-    ⊎_elim (λ y. wrong (sym (subst (λ (m : ℕ). (nat_le 70 m && nat_le m 83) ≡ false) (same n k y) e)
-    ∙ both (nat_le 70 k) (nat_le k 83) h g)) (λ o. o) (cases_Bool (n == k))
-  where
-    wrong : {A : Type 0} → false ≡ true → A
-    wrong e = absurd (cc)
-
-    same : (m n : ℕ) → (m == n) ≡ true → m ≡ n
-    same m n h = grind (arith, nat_tests)
-
-    both : (a b : Bool) → a ≡ true → b ≡ true → (a && b) ≡ true
-    both true b h g = g
-    both false b h g = h
-
-either : (a b : Bool) → a ≡ false → b ≡ false → (a || b) ≡ false
-either true b h g = h
-either false b h g = g
+no_operator_outside : (n k : ℕ) → nat_le 70 k ≡ true → nat_le k 83 ≡ true → (nat_le 70 n && nat_le n 83) ≡ false →
+    (n == k) ≡ false
+no_operator_outside n k h g e =
+    ⊎_elim (λ y. absurd (both_ways (nat_le 70 k && nat_le k 83)
+    (subst (λ (m : ℕ). (nat_le 70 m && nat_le m 83) ≡ false) (eqb-true n k y) e)
+    (and_from (nat_le 70 k) (nat_le k 83) h g))) (λ o. o) (cases_Bool (n == k))
 
 no_operator : (level : Level) (n : ℕ) → is_any_operator n ≡ false → is_operator_terminal level n ≡ false
 no_operator units n e = refl
-no_operator products n e = either ((n == 81) || (n == 82)) (n == 83)
-    (either (n == 81) (n == 82) (outside n 81 refl refl e) (outside n 82 refl refl e)) (outside n 83 refl refl e)
-no_operator sums n e = either (n == 79) (n == 80) (outside n 79 refl refl e) (outside n 80 refl refl e)
+no_operator products n e = or_from ((n == 81) || (n == 82)) (n == 83)
+    (or_from (n == 81) (n == 82) (no_operator_outside n 81 refl refl e) (no_operator_outside n 82 refl refl e))
+    (no_operator_outside n 83 refl refl e)
+no_operator sums n e = or_from (n == 79) (n == 80) (no_operator_outside n 79 refl refl e)
+    (no_operator_outside n 80 refl refl e)
 no_operator comparisons n e =
-    either ((n == 75) || (n == 76) || (n == 77)) (n == 78)
-    (either ((n == 75) || (n == 76)) (n == 77)
-    (either (n == 75) (n == 76) (outside n 75 refl refl e) (outside n 76 refl refl e)) (outside n 77 refl refl e))
-    (outside n 78 refl refl e)
-no_operator equalities n e = either (n == 73) (n == 74) (outside n 73 refl refl e) (outside n 74 refl refl e)
-no_operator conjunctions n e = outside n 71 refl refl e
-no_operator disjunctions n e = outside n 70 refl refl e
+    or_from ((n == 75) || (n == 76) || (n == 77)) (n == 78)
+    (or_from ((n == 75) || (n == 76)) (n == 77)
+    (or_from (n == 75) (n == 76) (no_operator_outside n 75 refl refl e) (no_operator_outside n 76 refl refl e))
+    (no_operator_outside n 77 refl refl e))
+    (no_operator_outside n 78 refl refl e)
+no_operator equalities n e = or_from (n == 73) (n == 74) (no_operator_outside n 73 refl refl e)
+    (no_operator_outside n 74 refl refl e)
+no_operator conjunctions n e = no_operator_outside n 71 refl refl e
+no_operator disjunctions n e = no_operator_outside n 70 refl refl e
 
 -- ---- one level more
 module _ (here : Scope) where
@@ -199,18 +191,16 @@ module _ (here : Scope) where
       GivesRule (operators level here) ws (Ok x) rest → GivesRule (operators loosest here) ws (Ok x) rest
   ends_at_level level loosest x ws rest h n g =
       subst (λ l. GivesRule (operators l here) ws (Ok x) rest)
-      (one_rank level loosest (equal (rank level) (rank loosest) h n)) g
+      (one_rank level loosest (equal_from_not_less (rank level) (rank loosest) h n)) g
 
 -- ---- the loop over the levels
-less : (m n : ℕ) → nat_lt m n ≡ true → m < n
-less m n h = grind (arith, nat_tests)
 
 -- The next level isn't looser than the loosest one.
 pub level_within : (level next loosest : Level) → nat_lt (rank level) (rank loosest) ≡ true → next ≡ looser level →
     rank next ≤ rank loosest
 level_within level next loosest h e =
     let b = rank_bound loosest in
-    let below = less (rank level) (rank loosest) h in
+    let below = ltb-true (rank level) (rank loosest) h in
     let up = ap rank e ∙ rank_rises level (omega (arith, below, b)) in
     omega (arith, below, up)
 
@@ -219,7 +209,7 @@ pub levels_fall : (level next loosest : Level) → nat_lt (rank level) (rank loo
     rank loosest - rank next < rank loosest - rank level
 levels_fall level next loosest h e =
     let b = rank_bound loosest in
-    let below = less (rank level) (rank loosest) h in
+    let below = ltb-true (rank level) (rank loosest) h in
     let up = ap rank e ∙ rank_rises level (omega (arith, below, b)) in
     omega (arith, below, up)
 
@@ -230,7 +220,7 @@ module _ (here : Scope) (level next loosest : Level) (x : Expr) where
       GivesRule (more_operators next here x) mid (Ok y) rest → GivesRule (operators next here) ws (Ok y) rest
   level_reads y ws mid rest h e a g =
       subst (λ l. GivesRule (operators l here) ws (Ok y) rest) (sym e)
-      (next_level here level loosest x ws mid rest (Ok y) (less (rank level) (rank loosest) h) a
+      (next_level here level loosest x ws mid rest (Ok y) (ltb-true (rank level) (rank loosest) h) a
       (subst (λ l. GivesRule (more_operators l here x) mid (Ok y) rest) e g))
 
   -- A fault in it is one of the loosest level.
@@ -240,5 +230,5 @@ module _ (here : Scope) (level next loosest : Level) (x : Expr) where
   level_breaks d ws mid rest h e a g =
       breaks_at_looser here next loosest d ws rest (level_within level next loosest h e)
       (subst (λ l. GivesRule (operators l here) ws (Err d) rest) (sym e)
-      (next_level here level loosest x ws mid rest (Err d) (less (rank level) (rank loosest) h) a
+      (next_level here level loosest x ws mid rest (Err d) (ltb-true (rank level) (rank loosest) h) a
       (subst (λ l. GivesRule (more_operators l here x) mid (Err d) rest) e g)))

@@ -8,3 +8,4 @@ pub mod PrimaryLaws
 pub mod EnclosedLaws
 pub mod NameLaws
 pub mod LevelLaws
+pub mod WordLaws

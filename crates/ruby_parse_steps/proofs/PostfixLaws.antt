@@ -1,9 +1,8 @@
 -- How calls, indexes and arguments are read behind an expression.
-use Rattle.std.proofs.Common.{◌≡◌, ℕ, suc, true, false, cond, List, [], ◌∷◌, drop, refl, sym, ap, ◌∙◌, subst, arith}
+use Rattle.std.proofs.Common.{◌≡◌, ℕ, suc, true, false, cond, List, [], ◌∷◌, drop, refl, sym, ap, ◌∙◌, subst}
 use Rattle.std.proofs.Common.{Result, Ok, Err, Some, codes}
 use Rattle.std.proofs.Common.{◌==◌}
-use Rattle.std.proofs.lemmas.Bool.{and_parts}
-use Rattle.std.proofs.lemmas.Bool.Decides.{nat_tests}
+use Rattle.std.proofs.lemmas.Bool.{and_parts, eqb-true}
 use Rattle.descent.specs.Grammar.{give}
 use Rattle.descent.specs.Reading.{take, head, choose}
 use Rattle.ruby_types.specs.declared.tree.Expr.{Expr}
@@ -90,13 +89,10 @@ module _ (here : Scope) (x : Expr) (ws : List Word) where
       (λ _. g_word {s = an_expression} is_name _ w mid behind rest (Err e) m n
       (g_fails {s = an_expression} (perhaps_arguments here) _ behind rest e a)))
 
-same : (m n : ℕ) → (m == n) ≡ true → m ≡ n
-same m n h = grind (arith, nat_tests)
-
 -- a word that is no `.`, where it is a `[`
 tight_is_no_dot : (ws : List Word) → next_is is_tight_bracket (head ws) ≡ true → next_is is_dot (head ws) ≡ false
 tight_is_no_dot [] p = refl
-tight_is_no_dot (w ∷ ws) p = let q = and_parts _ _ p in let s = same _ 93 q.0 in
+tight_is_no_dot (w ∷ ws) p = let q = and_parts _ _ p in let s = eqb-true _ 93 q.0 in
     subst (λ n. (n == 87) ≡ false) (sym s) refl
 
 -- ---- `[..]`

@@ -1,8 +1,7 @@
 -- How primaries are chosen by the terminal of their first word, and read.
-use Rattle.std.proofs.Common.{◌≡◌, ℕ, Bool, true, false, ◌==◌, ◌||◌, cond, List, [], ◌∷◌, drop, refl, sym, ap, ◌∙◌}
-use Rattle.std.proofs.Common.{subst, arith, Ok, Err, ⊎_elim}
-use Rattle.std.proofs.lemmas.Bool.{cases_Bool, cond-false}
-use Rattle.std.proofs.lemmas.Bool.Decides.{nat_tests}
+use Rattle.std.proofs.Common.{◌≡◌, ℕ, true, false, ◌==◌, ◌||◌, cond, List, [], ◌∷◌, drop, refl, sym, ap, ◌∙◌}
+use Rattle.std.proofs.Common.{subst, Ok, Err}
+use Rattle.std.proofs.lemmas.Bool.{cond-false, eqb-true, or_parts, eq-eqb, ne_eqb}
 use Rattle.descent.specs.Grammar.{give, token, only}
 use Rattle.descent.specs.Reading.{Choice, take, nothing, head, choose}
 use Rattle.ruby_types.specs.declared.tree.Expr.{Expr}
@@ -53,10 +52,7 @@ chosen_at here (w ∷ ws) n c e o h = subst (λ m. primary_at here m ≡ c) (sym
 -- the first word has this terminal
 pub sees : (ws : List Word) (n : ℕ) → head_terminal ws ≡ n → (98 == n) ≡ false → next_is (is n) (head ws) ≡ true
 sees [] n e o = wrong (subst (λ m. (98 == m) ≡ false) (sym e) o)
-sees (w ∷ ws) n e o = subst (λ m. (m == n) ≡ true) (sym e) (self n)
-  where
-    self : (n : ℕ) → (n == n) ≡ true
-    self n = grind (arith, nat_tests)
+sees (w ∷ ws) n e o = subst (λ m. (m == n) ≡ true) (sym e) (eq-eqb n n refl)
 
 -- a word that is an expression by itself
 pub word_reads : (here : Scope) (n : ℕ) (x : Expr) (ws rest : List Word) → head_terminal ws ≡ n → (98 == n) ≡ false →
@@ -79,36 +75,27 @@ text_reads here n value w x ws rest e o h q p v =
     (g_give {s = an_expression} (value w.text) rest)))
 
 -- ---- no primary
-is_same : (m n : ℕ) → (m == n) ≡ true → m ≡ n
-is_same m n h = grind (arith, nat_tests)
-
-no : (n k : ℕ) → (n ≡ k → ⊥) → (n == k) ≡ false
-no n k h = ⊎_elim (λ y. absurd (h (is_same n k y))) (λ e. e) (cases_Bool (n == k))
-
-neither : (a b : Bool) → (a || b) ≡ false → (a ≡ false) × (b ≡ false)
-neither true b e = absurd (cc)
-neither false b e = (refl, e)
 
 -- No primary begins with the terminal at hand.
 pub primary_none : (here : Scope) (n : ℕ) → nests n ≡ false → (n ≡ 55 → ⊥) → (n ≡ 54 → ⊥) → (n ≡ 52 → ⊥) →
     (n ≡ 12 → ⊥) → (n ≡ 13 → ⊥) → (n ≡ 14 → ⊥) → (n ≡ 11 → ⊥) → primary_at here n ≡ nothing
 primary_none here n h int sym' ivar nil yes' no' self =
-    let a = neither _ _ h in
-    let b = neither _ _ a.0 in
-    let c = neither _ _ b.0 in
-    let d = neither _ _ c.0 in
-    let k = neither _ _ a.1 in
-    let l = neither _ _ k.0 in
+    let a = or_parts _ _ h in
+    let b = or_parts _ _ a.0 in
+    let c = or_parts _ _ b.0 in
+    let d = or_parts _ _ c.0 in
+    let k = or_parts _ _ a.1 in
+    let l = or_parts _ _ k.0 in
     let either : ((n == 86) || (n == 51)) ≡ false = ap (λ x. x || (n == 51)) b.1 ∙ c.1 in
-    cond-false (n == 55) _ _ (no n 55 int)
+    cond-false (n == 55) _ _ (ne_eqb n 55 int)
     ∙ cond-false (n == 56) _ _ d.1
-    ∙ cond-false (n == 54) _ _ (no n 54 sym')
-    ∙ cond-false (n == 12) _ _ (no n 12 nil)
-    ∙ cond-false (n == 13) _ _ (no n 13 yes')
-    ∙ cond-false (n == 14) _ _ (no n 14 no')
-    ∙ cond-false (n == 11) _ _ (no n 11 self)
+    ∙ cond-false (n == 54) _ _ (ne_eqb n 54 sym')
+    ∙ cond-false (n == 12) _ _ (ne_eqb n 12 nil)
+    ∙ cond-false (n == 13) _ _ (ne_eqb n 13 yes')
+    ∙ cond-false (n == 14) _ _ (ne_eqb n 14 no')
+    ∙ cond-false (n == 11) _ _ (ne_eqb n 11 self)
     ∙ cond-false (n == 0) _ _ d.0
-    ∙ cond-false (n == 52) _ _ (no n 52 ivar)
+    ∙ cond-false (n == 52) _ _ (ne_eqb n 52 ivar)
     ∙ cond-false ((n == 86) || (n == 51)) _ _ either
     ∙ cond-false (n == 93) _ _ l.1
     ∙ cond-false (n == 95) _ _ k.1

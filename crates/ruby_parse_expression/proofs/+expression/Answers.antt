@@ -29,8 +29,10 @@ use Rattle.ruby_parse_steps.proofs.PostfixLaws as postfix_laws
 use Rattle.ruby_parse_steps.proofs.PostfixLaws.{postfix_begins, postfix_breaks, postfix_ends, member_lacks_name}
 use Rattle.ruby_parse_steps.proofs.PostfixLaws.{index_deep, index_reads, index_breaks, index_lacks_close}
 use Rattle.ruby_parse_steps.proofs.PrimaryLaws.{sees}
+use Rattle.ruby_parse_steps.proofs.WordLaws.{skip_falls}
 use Rattle.ruby_parse_expression.specs.Pairs.{pair_terminal}
-use Rattle.ruby_parse_expression.proofs.Lengths.{dropped, passed, still, weaken, enclosed, falls, same, no_longer}
+use Rattle.ruby_parse_expression.proofs.Lengths.{falls, no_longer, word_falls, less_than_most, inside_falls}
+use Rattle.ruby_parse_expression.proofs.Lengths.{less_is_most, same_length}
 use Rattle.std.proofs.Math.Nat.{le_trans}
 use Rattle.ruby_parse_expression.proofs.Failing.{ended_fails_so, ended_whole, ended_inside, fails, gives}
 use Rattle.ruby_parse_expression.proofs.Failing.{arguments_fail, constant_fails, perhaps_gives, pair_at}
@@ -74,8 +76,9 @@ arguments::members-members-preserved t c =
           (sym (c.starts_expression.ensures ∙ ap expression_terminal c.peek_terminal.ensures) ∙ c.members-test.true)
           c.in_ok-expression.ensures.reads c.in_ok-push.ensures.ok c.skip.new.self end r (sym c.sees.ensures
           ∙ c.if-not-sees.false) c.skip.ensures h);
-      shorter = still (dropped is_comma c.expression.new.cursor c.skip.new.self (sym c.sees.ensures
-          ∙ c.if-not-sees.false) c.skip.ensures) (still c.in_ok-expression.ensures.taken c.members.invariant.shorter);
+      shorter = less_than_most (skip_falls is_comma c.expression.new.cursor c.skip.new.self (sym c.sees.ensures
+          ∙ c.if-not-sees.false) c.skip.ensures) (less_than_most c.in_ok-expression.ensures.taken
+          c.members.invariant.shorter);
     }
 
 pub arguments::members-returns-clause-reads : goal.arguments::members-returns-clause-reads
@@ -161,8 +164,9 @@ arguments::pairs-pairs-preserved t c =
           ∙ (sym (c.starts_pair.ensures ∙ ap pair_terminal c.peek_terminal.ensures) ∙ c.pairs-test.true))
           c.in_ok-pair.ensures.reads c.in_ok-push.ensures.ok c.skip.new.self end r (sym c.sees.ensures
           ∙ c.if-not-sees.false) c.skip.ensures h);
-      shorter = still (dropped is_comma c.pair.new.cursor c.skip.new.self (sym c.sees.ensures ∙ c.if-not-sees.false)
-          c.skip.ensures) (still c.in_ok-pair.ensures.taken c.pairs.invariant.shorter);
+      shorter = less_than_most (skip_falls is_comma c.pair.new.cursor c.skip.new.self
+          (sym c.sees.ensures ∙ c.if-not-sees.false)
+          c.skip.ensures) (less_than_most c.in_ok-pair.ensures.taken c.pairs.invariant.shorter);
     }
 
 pub arguments::pairs-returns-clause-reads : goal.arguments::pairs-returns-clause-reads
@@ -178,7 +182,7 @@ operators::expression-values-init t c =
           (rules.expression (scope_view c.args.scope)) (λ x. give x) v c.args.cursor.now mid end r g
           (subst (λ l. BehindLast (scope_view c.args.scope) l v mid r end) c.new-opens.ensures.items h);
       breaks = λ e end g. g;
-      shorter = same c.args.cursor.now;
+      shorter = same_length c.args.cursor.now;
     }
 
 pub operators::expression-returns-in_err-value-clause-reads :
@@ -201,8 +205,9 @@ operators::expression-values-preserved-then-sees t c =
       breaks = λ e z g. c.values.invariant.breaks e z
           (choice_breaks (scope_view c.args.scope) c.in_ok-value.value e c.values.cursor c.operators.new.cursor
           c.skip.new.self z c.in_ok-value.ensures.reads (sym c.sees.ensures ∙ c.if-sees.true) c.skip.ensures g);
-      shorter = still (dropped is_ask c.operators.new.cursor c.skip.new.self (sym c.sees.ensures ∙ c.if-sees.true)
-          c.skip.ensures) (still c.in_ok-value.ensures.taken c.values.invariant.shorter);
+      shorter = less_than_most (skip_falls is_ask c.operators.new.cursor c.skip.new.self
+          (sym c.sees.ensures ∙ c.if-sees.true)
+          c.skip.ensures) (less_than_most c.in_ok-value.ensures.taken c.values.invariant.shorter);
     }
 
 pub operators::expression-returns-in_err-value-2-clause-reads :
@@ -237,7 +242,8 @@ operators::expression-values-preserved t c =
       breaks = λ e z g. c.values.invariant.goes_on c.in_ok-value.value c.operators.new.cursor (Err e) z
           (plain_expression (scope_view c.args.scope) c.in_ok-value.value c.values.cursor c.operators.new.cursor
           c.in_ok-value.ensures.reads (sym c.sees.ensures ∙ c.if-sees.false)) (h.1 e z g);
-      shorter = le_trans c.in_ok-value-2.ensures.shorter (still c.in_ok-value.ensures.taken c.values.invariant.shorter);
+      shorter = le_trans c.in_ok-value-2.ensures.shorter
+          (less_than_most c.in_ok-value.ensures.taken c.values.invariant.shorter);
     }
 
 pub operators::operators-returns-in_err-x-clause-reads : goal.operators::operators-returns-in_err-x-clause-reads
@@ -344,8 +350,8 @@ operators::more_operators-operands-preserved t c =
           ∙ c.operands-test.true)
           c.in_ok-operator.ensures.ok c.in_ok-y.y c.in_ok-x.x c.operators.new.cursor end r
           c.in_ok-y.ensures.reads c.in_ok-x.ensures (sym c.repeats.ensures ∙ c.if-not-repeats.false) h);
-      shorter = still (falls c.in_ok-y.ensures.taken
-          (passed (word_view c.in_ok-operator.operator) c.operands.cursor c.take_word.new.self
+      shorter = less_than_most (falls c.in_ok-y.ensures.taken
+          (word_falls (word_view c.in_ok-operator.operator) c.operands.cursor c.take_word.new.self
           c.in_ok-operator.ensures.ok)) c.operands.invariant.shorter;
     }
 
@@ -450,9 +456,9 @@ primary::arguments-returns-clause-reads t c =
 
 pub primary::arguments-returns-clause-shorter : goal.primary::arguments-returns-clause-shorter
 primary::arguments-returns-clause-shorter t c =
-    weaken (enclosed (dropped is_tight_paren c.args.cursor.now c.skip.new.self c.requires c.skip.ensures)
+    less_is_most (inside_falls (skip_falls is_tight_paren c.args.cursor.now c.skip.new.self c.requires c.skip.ensures)
     c.in_ok-args.ensures.shorter
-    (dropped is_close_paren c.members.new.cursor c.take.new.self c.in_ok-take.ensures.ok
+    (skip_falls is_close_paren c.members.new.cursor c.take.new.self c.in_ok-take.ensures.ok
     c.in_ok-take.ensures.passed))
 
 pub primary::bracket-returns-in_err-inner-clause-reads : goal.primary::bracket-returns-in_err-inner-clause-reads
@@ -491,16 +497,17 @@ primary::bracket-returns-in_ok-take-clause-reads t c =
 
 pub primary::bracket-returns-in_ok-take-clause-shorter : goal.primary::bracket-returns-in_ok-take-clause-shorter
 primary::bracket-returns-in_ok-take-clause-shorter t c =
-    weaken (enclosed (dropped is_open_bracket c.args.cursor.now c.skip.new.self (sym c.sees.ensures ∙ c.if-sees.true)
+    less_is_most (inside_falls (skip_falls is_open_bracket c.args.cursor.now c.skip.new.self
+    (sym c.sees.ensures ∙ c.if-sees.true)
     c.skip.ensures) c.in_ok-list.ensures.shorter
-    (dropped is_close_bracket c.members.new.cursor c.take.new.self c.in_ok-take.ensures.ok
+    (skip_falls is_close_bracket c.members.new.cursor c.take.new.self c.in_ok-take.ensures.ok
     c.in_ok-take.ensures.passed))
 
 pub primary::bracket-returns-in_ok-take-clause-taken : goal.primary::bracket-returns-in_ok-take-clause-taken
 primary::bracket-returns-in_ok-take-clause-taken t c =
-    enclosed (dropped is_open_bracket c.args.cursor.now c.skip.new.self (sym c.sees.ensures ∙ c.if-sees.true)
+    inside_falls (skip_falls is_open_bracket c.args.cursor.now c.skip.new.self (sym c.sees.ensures ∙ c.if-sees.true)
     c.skip.ensures) c.in_ok-list.ensures.shorter
-    (dropped is_close_bracket c.members.new.cursor c.take.new.self c.in_ok-take.ensures.ok
+    (skip_falls is_close_bracket c.members.new.cursor c.take.new.self c.in_ok-take.ensures.ok
     c.in_ok-take.ensures.passed)
 
 pub primary::bracket-returns-in_err-list-2-clause-reads : goal.primary::bracket-returns-in_err-list-2-clause-reads
@@ -533,16 +540,16 @@ primary::bracket-returns-in_ok-take-2-clause-reads t c =
 
 pub primary::bracket-returns-in_ok-take-2-clause-shorter : goal.primary::bracket-returns-in_ok-take-2-clause-shorter
 primary::bracket-returns-in_ok-take-2-clause-shorter t c =
-    weaken (enclosed (dropped is_open_brace c.args.cursor.now c.skip-then-sees-2.new.self
+    less_is_most (inside_falls (skip_falls is_open_brace c.args.cursor.now c.skip-then-sees-2.new.self
     (sym c.sees-else-sees.ensures ∙ c.if-sees-2.true) c.skip-then-sees-2.ensures) c.in_ok-list-2.ensures.shorter
-    (dropped is_close_brace c.pairs.new.cursor c.take-then-sees-2.new.self c.in_ok-take-2.ensures.ok
+    (skip_falls is_close_brace c.pairs.new.cursor c.take-then-sees-2.new.self c.in_ok-take-2.ensures.ok
     c.in_ok-take-2.ensures.passed))
 
 pub primary::bracket-returns-in_ok-take-2-clause-taken : goal.primary::bracket-returns-in_ok-take-2-clause-taken
 primary::bracket-returns-in_ok-take-2-clause-taken t c =
-    enclosed (dropped is_open_brace c.args.cursor.now c.skip-then-sees-2.new.self (sym c.sees-else-sees.ensures
+    inside_falls (skip_falls is_open_brace c.args.cursor.now c.skip-then-sees-2.new.self (sym c.sees-else-sees.ensures
     ∙ c.if-sees-2.true) c.skip-then-sees-2.ensures) c.in_ok-list-2.ensures.shorter
-    (dropped is_close_brace c.pairs.new.cursor c.take-then-sees-2.new.self c.in_ok-take-2.ensures.ok
+    (skip_falls is_close_brace c.pairs.new.cursor c.take-then-sees-2.new.self c.in_ok-take-2.ensures.ok
     c.in_ok-take-2.ensures.passed)
 
 pub primary::bracket-returns-in_err-x-clause-reads : goal.primary::bracket-returns-in_err-x-clause-reads
@@ -578,20 +585,20 @@ primary::bracket-returns-in_ok-take-3-clause-reads t c =
 
 pub primary::bracket-returns-in_ok-take-3-clause-shorter : goal.primary::bracket-returns-in_ok-take-3-clause-shorter
 primary::bracket-returns-in_ok-take-3-clause-shorter t c =
-    weaken (enclosed (dropped is_open_paren c.args.cursor.now c.skip-else-sees-2.new.self
+    less_is_most (inside_falls (skip_falls is_open_paren c.args.cursor.now c.skip-else-sees-2.new.self
     (sees c.args.cursor.now 91
     (is_paren c.args.cursor.now c.requires (sym c.sees.ensures ∙ c.if-sees.false) (sym c.sees-else-sees.ensures
     ∙ c.if-sees-2.false)) refl) c.skip-else-sees-2.ensures) c.in_ok-x.ensures.shorter
-    (dropped is_close_paren c.expression.new.cursor c.take-else-sees-2.new.self c.in_ok-take-3.ensures.ok
+    (skip_falls is_close_paren c.expression.new.cursor c.take-else-sees-2.new.self c.in_ok-take-3.ensures.ok
     c.in_ok-take-3.ensures.passed))
 
 pub primary::bracket-returns-in_ok-take-3-clause-taken : goal.primary::bracket-returns-in_ok-take-3-clause-taken
 primary::bracket-returns-in_ok-take-3-clause-taken t c =
-    enclosed (dropped is_open_paren c.args.cursor.now c.skip-else-sees-2.new.self
+    inside_falls (skip_falls is_open_paren c.args.cursor.now c.skip-else-sees-2.new.self
     (sees c.args.cursor.now 91
     (is_paren c.args.cursor.now c.requires (sym c.sees.ensures ∙ c.if-sees.false) (sym c.sees-else-sees.ensures
     ∙ c.if-sees-2.false)) refl) c.skip-else-sees-2.ensures) c.in_ok-x.ensures.shorter
-    (dropped is_close_paren c.expression.new.cursor c.take-else-sees-2.new.self c.in_ok-take-3.ensures.ok
+    (skip_falls is_close_paren c.expression.new.cursor c.take-else-sees-2.new.self c.in_ok-take-3.ensures.ok
     c.in_ok-take-3.ensures.passed)
 
 pub primary::index-returns-in_err-inner-clause-reads : goal.primary::index-returns-in_err-inner-clause-reads
@@ -623,8 +630,8 @@ primary::index-returns-in_err-take-clause-reads t c =
 pub primary::index-returns-in_err-take-clause-shorter : goal.primary::index-returns-in_err-take-clause-shorter
 primary::index-returns-in_err-take-clause-shorter t c =
     subst (λ l. length l ≤ length c.args.cursor.now) (sym c.in_err-take.ensures.stays)
-    (weaken (falls c.in_ok-i.ensures.taken
-    (dropped is_tight_bracket c.args.cursor.now c.skip.new.self c.requires c.skip.ensures)))
+    (less_is_most (falls c.in_ok-i.ensures.taken
+    (skip_falls is_tight_bracket c.args.cursor.now c.skip.new.self c.requires c.skip.ensures)))
 
 pub primary::index-returns-clause-reads : goal.primary::index-returns-clause-reads
 primary::index-returns-clause-reads t c = λ x.
@@ -635,16 +642,16 @@ primary::index-returns-clause-reads t c = λ x.
 
 pub primary::index-returns-clause-shorter : goal.primary::index-returns-clause-shorter
 primary::index-returns-clause-shorter t c =
-    weaken (enclosed (dropped is_tight_bracket c.args.cursor.now c.skip.new.self c.requires c.skip.ensures)
+    less_is_most (inside_falls (skip_falls is_tight_bracket c.args.cursor.now c.skip.new.self c.requires c.skip.ensures)
     c.in_ok-i.ensures.shorter
-    (dropped is_close_bracket c.expression.new.cursor c.take.new.self c.in_ok-take.ensures.ok
+    (skip_falls is_close_bracket c.expression.new.cursor c.take.new.self c.in_ok-take.ensures.ok
     c.in_ok-take.ensures.passed))
 
 pub primary::index-returns-clause-taken : goal.primary::index-returns-clause-taken
 primary::index-returns-clause-taken t c =
-    enclosed (dropped is_tight_bracket c.args.cursor.now c.skip.new.self c.requires c.skip.ensures)
+    inside_falls (skip_falls is_tight_bracket c.args.cursor.now c.skip.new.self c.requires c.skip.ensures)
     c.in_ok-i.ensures.shorter
-    (dropped is_close_bracket c.expression.new.cursor c.take.new.self c.in_ok-take.ensures.ok
+    (skip_falls is_close_bracket c.expression.new.cursor c.take.new.self c.in_ok-take.ensures.ok
     c.in_ok-take.ensures.passed)
 
 pub primary::member-returns-in_err-word-clause-reads : goal.primary::member-returns-in_err-word-clause-reads
@@ -838,7 +845,7 @@ primary::text_parts-parts-preserved-in_ok-push t c =
           (word_view c.in_ok-piece.piece) c.push.new.self c.take_word.new.self end r c.in_ok-piece.ensures.ok
           c.in_ok-piece.ensures.terminal (c.in_ok-push.ensures.ok
           ∙ ap (λ x. c.parts.parts ++ x ∷ []) c.in_ok-plain_part.ensures) h);
-      shorter = still (passed (word_view c.in_ok-piece.piece) c.parts.cursor c.take_word.new.self
+      shorter = less_than_most (word_falls (word_view c.in_ok-piece.piece) c.parts.cursor c.take_word.new.self
           c.in_ok-piece.ensures.ok) c.parts.invariant.shorter;
     }
 
@@ -865,9 +872,10 @@ primary::text_parts-returns-in_err-expression-clause-reads t c =
 
 pub primary::text_parts-parts-smaller : goal.primary::text_parts-parts-smaller
 primary::text_parts-parts-smaller t c =
-    enclosed (dropped is_inside_open c.parts.cursor c.skip.new.self (sym c.sees-else-sees.ensures ∙ c.if-sees-2.true)
+    inside_falls (skip_falls is_inside_open c.parts.cursor c.skip.new.self
+    (sym c.sees-else-sees.ensures ∙ c.if-sees-2.true)
     c.skip.ensures) c.in_ok-expression.ensures.shorter
-    (dropped is_inside_close c.expression.new.cursor c.take.new.self c.in_ok-take.ensures.ok
+    (skip_falls is_inside_close c.expression.new.cursor c.take.new.self c.in_ok-take.ensures.ok
     c.in_ok-take.ensures.passed)
 
 pub primary::text_parts-parts-preserved : goal.primary::text_parts-parts-preserved
@@ -880,10 +888,10 @@ primary::text_parts-parts-preserved t c =
           c.skip.ensures c.in_ok-expression.field-0 c.push-then-sees-2.new.self c.expression.new.cursor
           c.take.new.self end r c.in_ok-expression.ensures.reads c.in_ok-take.ensures.ok c.in_ok-take.ensures.passed
           c.in_ok-push-2.ensures.ok h);
-      shorter = still (enclosed
-          (dropped is_inside_open c.parts.cursor c.skip.new.self (sym c.sees-else-sees.ensures ∙ c.if-sees-2.true)
+      shorter = less_than_most (inside_falls
+          (skip_falls is_inside_open c.parts.cursor c.skip.new.self (sym c.sees-else-sees.ensures ∙ c.if-sees-2.true)
           c.skip.ensures) c.in_ok-expression.ensures.shorter
-          (dropped is_inside_close c.expression.new.cursor c.take.new.self c.in_ok-take.ensures.ok
+          (skip_falls is_inside_close c.expression.new.cursor c.take.new.self c.in_ok-take.ensures.ok
           c.in_ok-take.ensures.passed)) c.parts.invariant.shorter;
     }
 
