@@ -22,8 +22,10 @@ use Rattle.ruby_machine_frames.specs.declared.frames.Control.TheVariants as cont
 use Rattle.ruby_machine_frames.specs.declared.frames.Stop.{Stop}
 use Rattle.ruby_machine_frames.specs.declared.frames.Stop.TheVariants as stop
 use Rattle.ruby_machine_frames.specs.declared.stack.Core.{Core}
-use Rattle.ruby_machine_frames.specs.Rest.{KeptFrom, Kept, Pushed, StopsWith, RaisesWith, after_of, arms_from, body_from}
-use Rattle.ruby_machine_frames.specs.Rest.{calls, execs, flows, flows_of, gives_of, load, meaning, onto, pushes, raised_layer_error}
+use Rattle.ruby_machine_frames.specs.Rest.{KeptFrom, Kept, Pushed, StopsWith}
+use Rattle.ruby_machine_frames.specs.Rest.{RaisesWith, after_of, arms_from, body_from}
+use Rattle.ruby_machine_frames.specs.Rest.{calls, execs, flows, flows_of, gives_of}
+use Rattle.ruby_machine_frames.specs.Rest.{load, meaning, onto, pushes, raised_layer_error}
 use Rattle.ruby_machine_frames.specs.Rest.{rest, bottom, evals, meaning_over, with_turns, work}
 use Rattle.ruby_machine_frames.proofs.Levels.{steps_of, execs_of_node}
 use Rattle.ruby_machine_frames.proofs.Steps.{kept_along, rest_push, weight_push}
@@ -120,7 +122,8 @@ module _ (index : Index) (known : List Entry) (m : Core) (r : Result Control Sto
 
   -- the arms of an `if` from a node on: the first one's condition
   pub branch_go : (arms test taken more other : ℕ) →
-      (entry_at known arms).arms ≡ ((entry_at known test).expr, (entry_at known taken).body) ∷ (entry_at known more).arms →
+      (entry_at known arms).arms ≡ ((entry_at known test).expr, (entry_at known taken).body)
+      ∷ (entry_at known more).arms →
       KeptFrom index known (pushes index known m (frame.Branch taken more other) test) (load m + 5) r new →
       KeptFrom index known (arms_meaning index known m arms other) (load m + 7) r new
   branch_go arms test taken more other is k =

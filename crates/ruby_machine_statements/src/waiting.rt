@@ -96,7 +96,8 @@ pub fn branched(
     value: Value,
 ) -> Result<Control, Stop>
     ensures { (index : Index) → KeptFrom index nodes.now
-        (frame_meaning index nodes.now core.old (frame.Branch taken arms other) (GoesOn (state_of core.old.state) value))
+        (frame_meaning index nodes.now core.old (frame.Branch taken arms other)
+        (GoesOn (state_of core.old.state) value))
         (load core.old + 9) result core.new }
 {
     if is_truthy(&value) {
