@@ -6,7 +6,8 @@ use Rattle.std.specs.Result.{OnOk}
 use Rattle.ruby_types.specs.declared.tree.Expr.{Expr}
 use Rattle.ruby_types.specs.declared.tree.Expr.TheVariants as v
 use Rattle.ruby_print.specs.Pieces.{grouped}
-use Rattle.ruby_print.specs.Expressions.{left, right, members, before_receiver, behind_receiver, expression, inner}
+use Rattle.ruby_print.specs.Expressions.{left, right, members, form_of, before_receiver}
+use Rattle.ruby_print.specs.Expressions.{behind_receiver, expression, inner}
 use Rattle.ruby_print.specs.declared.pending.Pending.{Pending}
 use Rattle.ruby_print.specs.declared.pending.Pending.TheVariants as p
 use Rattle.ruby_print.specs.Pending.{piece_text}
@@ -27,8 +28,8 @@ begun : {T E : Type 0} (r : Result T E) (o0 o1 p0 p1 b s w : List ℕ) → b ++ 
 begun (Ok value) o0 o1 p0 p1 b s w e h i = begun-parts o0 o1 p0 p1 b s w e h i
 begun (Err error) o0 o1 p0 p1 b s w e h i = h
 
-operator-parts : (o a r p : List ℕ) → o ++ (a ++ (r ++ p)) ≡ (o ++ (a ++ r)) ++ p
-operator-parts o a r p = grind (arith, common_steps)
+three-parts : (o a r p : List ℕ) → o ++ (a ++ (r ++ p)) ≡ (o ++ (a ++ r)) ++ p
+three-parts o a r p = grind (arith, common_steps)
 
 -- What is written of an operator's piece and what is then pending make the piece's text: for the step of operators.
 pub begun-operator : {T E : Type 0} (r : Result T E) (piece : Pending) (sign : Bor (List ℕ)) (x : Bor Expr)
@@ -38,7 +39,7 @@ pub begun-operator : {T E : Type 0} (r : Result T E) (piece : Pending) (sign : B
     OnOk r (o1 ++ p1 ≡ o0 ++ (piece_text piece ++ p0))
 begun-operator r piece sign x inside o0 o1 p0 p1 e h i =
     begun r o0 o1 p0 p1 _ _ (piece_text piece)
-    (operator-parts sign.now (inner x.now) (right inside) p0 ∙ ap (λ t. t ++ p0) (sym (ap piece_text e))) h i
+    (three-parts sign.now (inner x.now) (right inside) p0 ∙ ap (λ t. t ++ p0) (sym (ap piece_text e))) h i
 
 -- ---- by the kinds of expressions: x is the one that is begun
 
@@ -53,23 +54,21 @@ whole-own r x on name args args' inside o0 o1 p e n a h =
     (ap (λ x. expression x inside) (e ∙ ap (λ on. v.Call on name args) n) ∙ print-own name args inside
     ∙ ap (λ args. name ++ grouped (members (map expression args))) (sym a)) h
 
-call-parts : (a b c p : List ℕ) → a ++ (b ++ (c ++ p)) ≡ (a ++ (b ++ c)) ++ p
-call-parts a b c p = grind (arith, common_steps)
-
 -- What is written before a call's receiver and what is then pending make the call's text.
 pub begun-call : {T E : Type 0} (r : Result T E) (x on' : Expr) (on : Option Expr) (name : List ℕ)
     (args args' : List Expr) (inside : Bool) (o0 o1 p0 p1 : List ℕ) →
     x ≡ v.Call on name args → on ≡ Some on' → args' ≡ args →
-    OnOk r (o1 ≡ o0 ++ before_receiver name inside) →
-    OnOk r (p1 ≡ inner on' ++ (behind_receiver name (map expression args') inside ++ p0)) →
+    OnOk r (o1 ≡ o0 ++ before_receiver (form_of name) inside) →
+    OnOk r (p1 ≡ inner on' ++ (behind_receiver (form_of name) name (map expression args') inside ++ p0)) →
     OnOk r (o1 ++ p1 ≡ o0 ++ (expression x inside ++ p0))
 begun-call r x on' on name args args' inside o0 o1 p0 p1 e n a h i =
     begun r o0 o1 p0 p1 _ _ (expression x inside)
-    (call-parts (before_receiver name inside) (inner on') (behind_receiver name (map expression args') inside) p0
+    (three-parts (before_receiver (form_of name) inside) (inner on')
+    (behind_receiver (form_of name) name (map expression args') inside) p0
     ∙ ap (λ t. t ++ p0) (sym (ap (λ x. expression x inside) (e ∙ ap (λ on. v.Call on name args) n)
     ∙ print-parts on' name args inside
-    ∙ ap (λ args. before_receiver name inside ++
-    (inner on' ++ behind_receiver name (map expression args) inside)) (sym a)))) h i
+    ∙ ap (λ args. before_receiver (form_of name) inside ++
+    (inner on' ++ behind_receiver (form_of name) name (map expression args) inside)) (sym a)))) h i
 
 last-parts : (l o a r p : List ℕ) → l ++ (o ++ (a ++ (r ++ p))) ≡ (l ++ ((o ++ a) ++ r)) ++ p
 last-parts l o a r p = grind (arith, common_steps)

@@ -10,7 +10,8 @@ abbrev pub is_nil : {X : Type 0} → List X → Bool
 is_nil [] = true
 is_nil (x ∷ xs) = false
 
-nil-push : {X : Type 0} (xs : List X) (x : X) → false ≡ is_nil (xs ++ x ∷ [])
+-- A list with one more member isn't empty: the flag of the first member behind a loop's step.
+pub nil-push : {X : Type 0} (xs : List X) (x : X) → false ≡ is_nil (xs ++ x ∷ [])
 nil-push [] x = refl
 nil-push (y ∷ ys) x = refl
 

@@ -17,7 +17,7 @@ use Rattle.ruby_print.specs.Expressions.{alone}
 use Rattle.ruby_print.specs.Statements.{Placed, deeper, line, inside, behind, otherwise, statement_step, statement}
 use Rattle.ruby_print.specs.Statements.{statement_lines, statements_behind, statement_arms}
 use Rattle.ruby_print.specs.Definitions.{body, parent_text, symbol, definition_step, definition, definition_lines}
-use Rattle.ruby_print.proofs.Joins.{is_nil}
+use Rattle.ruby_print.proofs.Joins.{is_nil, nil-push}
 
 -- Statements inside a definition are their lines, two spaces deeper.
 pub statements_inside : (indent : List ℕ) (ss : List Stmt) → inside indent (map statement ss)
@@ -55,6 +55,9 @@ print-If as' other indent =
     ap (λ f. f indent) (fold_out-Stmt Placed statement_step (s.If as' other false)
     ∙ ap (λ l. statement_step (map-Stmt Stmt Placed statement l)) (s.outs-If as' other false))
 
+arm_assoc : (w c i t u : List ℕ) → w ++ (c ++ (i ++ (t ++ u))) ≡ (w ++ (c ++ (i ++ t))) ++ u
+arm_assoc w c i t u = grind (arith, common_steps)
+
 -- one arm more
 arms-push : (indent word : List ℕ) (as' : List (Expr × List Stmt)) (a : Expr × List Stmt) →
     statement_arms indent word (as' ++ a ∷ []) ≡ statement_arms indent word as' ++
@@ -63,24 +66,14 @@ arms-push indent word [] a = ap (λ t. word ++ (alone a.0 ++ t)) (append-nil _)
 arms-push indent word (b ∷ []) a =
     ap (λ t. word ++ (alone b.0 ++ (inside indent (map statement b.1) ++ t))) (arms-push indent (codes "elsif ") [] a)
     ∙ arm_assoc word (alone b.0) (inside indent (map statement b.1)) [] _
-  where
-    arm_assoc : (w c i t u : List ℕ) → w ++ (c ++ (i ++ (t ++ u))) ≡ (w ++ (c ++ (i ++ t))) ++ u
-    arm_assoc w c i t u = grind (arith, common_steps)
 arms-push indent word (b ∷ c ∷ as') a =
     ap (λ t. word ++ (alone b.0 ++ (inside indent (map statement b.1) ++ t)))
     (arms-push indent (codes "elsif ") (c ∷ as') a)
     ∙ arm_assoc word (alone b.0) (inside indent (map statement b.1)) _ _
-  where
-    arm_assoc : (w c i t u : List ℕ) → w ++ (c ++ (i ++ (t ++ u))) ≡ (w ++ (c ++ (i ++ t))) ++ u
-    arm_assoc w c i t u = grind (arith, common_steps)
 
 arm_steps : (o0 o1 o2 o3 o4 t w c i : List ℕ) → o1 ≡ o0 ++ t → o2 ≡ o1 ++ w → o3 ≡ o2 ++ c → o4 ≡ o3 ++ i →
     o4 ≡ o0 ++ (t ++ (w ++ (c ++ i)))
 arm_steps o0 o1 o2 o3 o4 t w c i p q r z = grind (arith, common_steps)
-
-nil-push : {X : Type 0} (xs : List X) (x : X) → false ≡ is_nil (xs ++ x ∷ [])
-nil-push [] x = refl
-nil-push (y ∷ ys) x = refl
 
 -- One more arm keeps the invariant of the loop over arms.
 pub arms-more : (indent : List ℕ) (as' : List (Expr × List Stmt)) (i : ℕ) (a : Expr × List Stmt)

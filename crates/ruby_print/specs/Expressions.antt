@@ -9,6 +9,8 @@ use Rattle.ruby_types.specs.declared.tree.Expr.{Expr, fold-Expr}
 use Rattle.ruby_types.specs.declared.tree.Part.{Part, fold-Part}
 use Rattle.ruby_types.specs.declared.tree.Expr.TheOpen.{Expr-F, Part-F}
 use Rattle.ruby_types.specs.declared.tree.Expr.TheOpen as e
+use Rattle.ruby_print.specs.declared.operators.Form.{Form}
+use Rattle.ruby_print.specs.declared.operators.Form.TheVariants as form
 use Rattle.ruby_print.specs.Pieces.{escaped, joined, constant_text, grouped}
 
 -- the bytes of an expression, given whether it stands inside another
@@ -53,20 +55,26 @@ call_on on name args inside =
     else (if is_operator name then operation (on true ++ (32 ∷ (name ++ (32 ∷ members args)))) inside
     else on true ++ (46 ∷ (name ++ arguments args))))
 
--- what stands before the receiver of a call, and what stands behind it
-abbrev pub before_receiver : List ℕ → Bool → List ℕ
-before_receiver name inside =
-    if bytes_eq name (codes "[]") then []
-    else (if bytes_eq name (codes "-@") then left inside ++ codes "- "
-    else (if is_operator name then left inside else []))
+-- the form in which a call of a method of this name is printed
+abbrev pub form_of : List ℕ → Form
+form_of name =
+    if bytes_eq name (codes "[]") then form.Element
+    else (if bytes_eq name (codes "-@") then form.Negation
+    else (if is_operator name then form.Operator else form.Method))
 
--- What a call writes behind its receiver: `.name(..)`, `[..]`, or an operator and its right side.
-abbrev pub behind_receiver : List ℕ → List Printed → Printed
-behind_receiver name args inside =
-    if bytes_eq name (codes "[]") then 91 ∷ (members args ++ 93 ∷ [])
-    else (if bytes_eq name (codes "-@") then right inside
-    else (if is_operator name then 32 ∷ (name ++ (32 ∷ (members args ++ right inside)))
-    else 46 ∷ (name ++ arguments args)))
+-- What a call of this form writes before its receiver.
+abbrev pub before_receiver : Form → Bool → List ℕ
+before_receiver form.Element inside = []
+before_receiver form.Negation inside = left inside ++ codes "- "
+before_receiver form.Operator inside = left inside
+before_receiver form.Method inside = []
+
+-- What a call of this form writes behind its receiver: `[..]`, or an operator and its right side, or `.name(..)`.
+abbrev pub behind_receiver : Form → List ℕ → List Printed → Printed
+behind_receiver form.Element name args inside = 91 ∷ (members args ++ 93 ∷ [])
+behind_receiver form.Negation name args inside = right inside
+behind_receiver form.Operator name args inside = 32 ∷ (name ++ (32 ∷ (members args ++ right inside)))
+behind_receiver form.Method name args inside = 46 ∷ (name ++ arguments args)
 
 -- a call on self has its parentheses
 abbrev pub call_text : Option Printed → List ℕ → List Printed → Printed

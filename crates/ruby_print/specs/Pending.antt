@@ -13,7 +13,7 @@ use Rattle.ruby_print.specs.Expressions.{right, behind_receiver, expression, inn
 abbrev pub piece_text : Pending → List ℕ
 piece_text (p.Operand x) = inner x.now
 piece_text (p.Operator sign x inside) = sign.now ++ (inner x.now ++ right inside)
-piece_text (p.Behind name args inside) = behind_receiver name.now (map expression args.now) inside
+piece_text (p.Behind form name args inside) = behind_receiver form name.now (map expression args.now) inside
 piece_text p.Close = 41 ∷ []
 
 -- What all that is pending writes, the last piece first.
@@ -25,7 +25,7 @@ pending_text (x ∷ xs) = pending_text xs ++ piece_text x
 abbrev pub piece_depth : Pending → ℕ
 piece_depth (p.Operand x) = size-Expr x.now
 piece_depth (p.Operator sign x inside) = size-Expr x.now
-piece_depth (p.Behind name args inside) = weight-Expr-Array-0 args.now + 1
+piece_depth (p.Behind form name args inside) = weight-Expr-Array-0 args.now + 1
 piece_depth p.Close = 0
 
 -- How deep the deepest pending piece nests.
@@ -59,7 +59,7 @@ links = fold-Expr ℕ ℕ links_step no_links
 abbrev pub piece_steps : Pending → ℕ
 piece_steps (p.Operand x) = 2 * links x.now
 piece_steps (p.Operator sign x inside) = 2 * links x.now + 2
-piece_steps (p.Behind name args inside) = 1
+piece_steps (p.Behind form name args inside) = 1
 piece_steps p.Close = 1
 
 -- How many steps are left for what is pending.

@@ -6,7 +6,7 @@ ghost use Rattle.ruby_types.specs.declared.tree.Expr.{size-Expr};
 ghost use Rattle.ruby_print.specs.Expressions as spec;
 ghost use Rattle.ruby_print.specs.Pending.{pending_text, piece_text, depth, piece_depth, steps, piece_steps, links};
 
-use crate::operators::{close, is_operator};
+use crate::operators::{Form, close};
 use crate::pending::{Pending, begin_both, begin_call, begin_choice, begin_last, push_operator};
 use crate::pieces::{push_comma, push_constant, push_escapes, push_ivar, push_symbol};
 use plain_text::decimal;
@@ -50,7 +50,9 @@ fn push_piece<'a>(
         Pending::Operator(operator, expr, inside) => {
             push_operator(written, pending, operator, expr, inside)
         }
-        Pending::Behind(name, args, inside) => push_behind(alloc, written, name, args, inside),
+        Pending::Behind(form, name, args, inside) => {
+            push_behind(alloc, written, form, name, args, inside)
+        }
         Pending::Close => close(written, true),
     }
 }
@@ -157,23 +159,20 @@ fn push_grouped(alloc: Global, written: &mut Vec<u8>, args: &[Expr]) -> Result<(
 fn push_behind(
     alloc: Global,
     written: &mut Vec<u8>,
+    form: Form,
     name: &Text,
     args: &[Expr],
     inside: bool,
 ) -> Result<(), AllocError>
-    ensures { OnOk result (written.new.items ≡ written.old.items ++ spec.behind_receiver name.now
+    ensures { OnOk result (written.new.items ≡ written.old.items ++ spec.behind_receiver form name.now
         (map spec.expression args.now) inside) }
 {
-    if name.as_bytes() == b"[]".as_slice() {
-        return push_bracketed(alloc, written, args);
+    match form {
+        Form::Element => push_bracketed(alloc, written, args),
+        Form::Negation => close(written, inside),
+        Form::Operator => push_operand(alloc, written, name, args, inside),
+        Form::Method => push_method(alloc, written, name, args),
     }
-    if name.as_bytes() == b"-@".as_slice() {
-        return close(written, inside);
-    }
-    if is_operator(name.as_bytes()) {
-        return push_operand(alloc, written, name, args, inside);
-    }
-    push_method(alloc, written, name, args)
 }
 
 /// Expressions in brackets.

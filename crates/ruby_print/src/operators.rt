@@ -3,6 +3,19 @@ ghost use Rattle.ruby_print.specs.Expressions as spec;
 
 use std::alloc::AllocError;
 
+/// How a call on a receiver is printed. It is decided once, by the method's name.
+#[derive(Clone, Copy)]
+pub enum Form {
+    /// `on[x]`
+    Element,
+    /// `- on`
+    Negation,
+    /// `on + x`
+    Operator,
+    /// `on.name(x, y)`
+    Method,
+}
+
 /// The parenthesis before an operator expression that stands inside another.
 pub fn open(written: &mut Vec<u8>, inside: bool) -> Result<(), AllocError>
     ensures { OnOk result (written.new.items ≡ written.old.items ++ spec.left inside) }
@@ -31,24 +44,35 @@ fn push_sign(written: &mut Vec<u8>, operator: &[u8], inside: bool) -> Result<(),
     written.extend_from_slice(operator)
 }
 
-/// What stands before the receiver of a call.
-pub fn push_before(written: &mut Vec<u8>, name: &[u8], inside: bool) -> Result<(), AllocError>
-    ensures { OnOk result (written.new.items ≡ written.old.items ++ spec.before_receiver name.now inside) }
+/// The form in which a call of a method of this name is printed.
+pub fn form_of(name: &[u8]) -> Form
+    ensures { result ≡ spec.form_of name.now }
 {
     if name == b"[]".as_slice() {
-        return Ok(());
+        return Form::Element;
     }
     if name == b"-@".as_slice() {
-        return push_sign(written, b"- ", inside);
+        return Form::Negation;
     }
     if is_operator(name) {
-        return open(written, inside);
+        return Form::Operator;
     }
-    Ok(())
+    Form::Method
+}
+
+/// What stands before the receiver of a call.
+pub fn push_before(written: &mut Vec<u8>, form: Form, inside: bool) -> Result<(), AllocError>
+    ensures { OnOk result (written.new.items ≡ written.old.items ++ spec.before_receiver form inside) }
+{
+    match form {
+        Form::Element | Form::Method => Ok(()),
+        Form::Negation => push_sign(written, b"- ", inside),
+        Form::Operator => open(written, inside),
+    }
 }
 
 /// Whether a method's name is an operator.
-pub fn is_operator(name: &[u8]) -> bool
+fn is_operator(name: &[u8]) -> bool
     ensures { result ≡ spec.is_operator name.now }
 {
     match name.first() {

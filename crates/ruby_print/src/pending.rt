@@ -6,7 +6,7 @@ ghost use Rattle.ruby_types.specs.declared.tree.Expr.TheViews.{weight-Expr-Array
 ghost use Rattle.ruby_print.specs.Pending.{pending_text, depth, steps, links};
 ghost use Rattle.ruby_print.specs.Expressions as spec;
 
-use crate::operators::{open, push_before};
+use crate::operators::{Form, form_of, open, push_before};
 use ruby_types::{Expr, Text};
 use std::alloc::AllocError;
 
@@ -17,8 +17,9 @@ pub enum Pending<'a> {
     Operand(&'a Expr),
     /// An operator and its last operand, in an expression that stands inside another or alone.
     Operator(&'a [u8], &'a Expr, bool),
-    /// What stands behind the receiver of a call, by its name and arguments; the call stands inside another or alone.
-    Behind(&'a Text, &'a [Expr], bool),
+    /// What stands behind the receiver of a call, by its form, name and arguments; the call stands inside another or
+    /// alone.
+    Behind(Form, &'a Text, &'a [Expr], bool),
     /// The parenthesis behind an operator expression.
     Close,
 }
@@ -135,18 +136,21 @@ pub fn begin_call<'a>(
     args: &'a [Expr],
     inside: bool,
 ) -> Result<(), AllocError>
-    ensures written { OnOk result (written.new.items ≡ written.old.items ++ spec.before_receiver name.now inside) }
+    ensures written { OnOk result
+        (written.new.items ≡ written.old.items ++ spec.before_receiver (spec.form_of name.now) inside) }
     ensures text { OnOk result
         (pending_text pending.new.items
-        ≡ spec.inner on.now ++ (spec.behind_receiver name.now (map spec.expression args.now) inside ++ pending_text
+        ≡ spec.inner on.now ++
+        (spec.behind_receiver (spec.form_of name.now) name.now (map spec.expression args.now) inside ++ pending_text
         pending.old.items)) }
     ensures depth { OnOk result
         (depth pending.new.items ≡ max (max (depth pending.old.items) (weight-Expr-Array-0 args.now + 1))
         (size-Expr on.now)) }
     ensures steps { OnOk result (steps pending.new.items ≡ steps pending.old.items + 1 + 2 * links on.now) }
 {
-    push_before(written, name.as_bytes(), inside)?;
-    pending.push(Pending::Behind(name, args, inside))?;
+    let form = form_of(name.as_bytes());
+    push_before(written, form, inside)?;
+    pending.push(Pending::Behind(form, name, args, inside))?;
     pending.push(Pending::Operand(on))?;
     Ok(())
 }
