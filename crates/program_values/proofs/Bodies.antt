@@ -1,5 +1,5 @@
 -- Expressions, statements and calls come to values that stand, and two calls that go together can't be told apart.
-use Rattle.std.proofs.Common.{◌≡◌, ℕ, zero, suc, Bool, true, false, ◌&&◌, not, List, [], ◌∷◌, ◌++◌, length, map, Option}
+use Rattle.std.proofs.Common.{◌≡◌, ℕ, Bool, true, false, ◌&&◌, not, List, [], ◌∷◌, ◌++◌, length, map, Option}
 use Rattle.std.proofs.Common.{Some, None, refl, subst, codes, ◌==◌, bytes_eq}
 use Rattle.std.specs.Prelude.{◌/◌, ◌||◌, ◌-◌}
 use Rattle.std.proofs.lemmas.Bool.{and_parts}
@@ -25,9 +25,9 @@ use Rattle.program_places.specs.Places.{Body, Statements, Reads}
 use Rattle.program_places.specs.Tasks.{EachIs}
 use Rattle.ruby_runs.specs.Doing.{Doing, Here, ◌>>◌, turn}
 use Rattle.ruby_runs.specs.BuiltIns.{BuiltIns, is_truthy, built_in_call, ended_call, made}
-use Rattle.ruby_runs.specs.Bodies.{State, Flow, GoesOn, Returns, Eval, Exec, PartEval, Left, Call, local_of, with_local}
-use Rattle.ruby_runs.specs.Bodies.{boolean, ivar_of, with_ivar, all_of, all_pairs, whole_text, text_end, receiver}
-use Rattle.ruby_runs.specs.Bodies.{flow_on, in_order, left_by, find_method, is_class_at, bound, here_of, expr_layer}
+use Rattle.ruby_runs.specs.Bodies.{State, Flow, GoesOn, Returns, Eval, Exec, PartEval, Left, Call, with_local}
+use Rattle.ruby_runs.specs.Bodies.{with_ivar, all_of, all_pairs, whole_text, text_end, receiver}
+use Rattle.ruby_runs.specs.Bodies.{flow_on, in_order, left_by, find_method, is_class_at, here_of, expr_layer}
 use Rattle.ruby_runs.specs.Bodies.{part_layer, eval, raised_layer, arms_of, return_value, arm_of, stmt_layer, exec}
 use Rattle.ruby_runs.specs.Bodies.{body_of, enter, invoke, singleton_in, singleton_at, singleton, instance_in}
 use Rattle.ruby_runs.specs.Bodies.{instance, instance_of, initialized, makes_new, method_or, new_or_built_in}
@@ -36,7 +36,7 @@ use Rattle.program_values.specs.Standing.{Stands, PairStands, AllStand, NamesNot
 use Rattle.program_values.proofs.Values.{each_of_both, nil_stands, boolean_stands, int_stands, str_stands, sym_stands}
 use Rattle.program_values.proofs.Values.{array_stands, hash_stands, object_stands, LocalStands, local_stands}
 use Rattle.program_values.proofs.Values.{locals_stand, bound_stand, ivar_stands, with_ivar_stands, put_stand}
-use Rattle.program_values.proofs.Keeps.{Keeps, Any, pure_keeps, bind_keeps, keeps_less, raise_keeps, fail_keeps}
+use Rattle.program_values.proofs.Keeps.{Keeps, Any, pure_keeps, bind_keeps, raise_keeps, fail_keeps}
 use Rattle.program_values.proofs.Keeps.{turn_keeps, pay_keeps, either_keeps}
 use Rattle.program_values.proofs.Names.{ancestors_keep, resolved_value_keeps}
 

@@ -1,5 +1,5 @@
 -- Two runs that go together: over what is known they come to the same, and to a value that stands.
-use Rattle.std.proofs.Common.{◌≡◌, ℕ, zero, suc, Bool, true, false, List, [], ◌∷◌, Option, Some, None, refl, ap}
+use Rattle.std.proofs.Common.{◌≡◌, ℕ, zero, suc, Bool, true, false, List, ◌∷◌, Option, Some, None, refl, ap}
 use Rattle.std.specs.Prelude.{◌-◌, nat_le, if◌then◌else◌}
 use Rattle.by_need.specs.Asking as asking
 use Rattle.by_need.specs.Asking.{Gives, Answer, Done, Raised, Asks, Otherwise, Outcome, over, with_value}
@@ -9,7 +9,7 @@ use Rattle.ruby_types.specs.declared.request.RubyError.{RubyError}
 use Rattle.ruby_types.specs.declared.request.Task.{Task}
 use Rattle.program_places.specs.Places.{Index}
 use Rattle.ruby_runs.specs.declared.NoReply.{NoReply}
-use Rattle.ruby_runs.specs.Doing.{Meaning, Going, Doing, Here, pure, ◌>>=◌, ◌>>◌, ends, raise, fail, turn, paid}
+use Rattle.ruby_runs.specs.Doing.{Meaning, Going, Doing, Here, pure, ◌>>=◌, ends, raise, fail, turn, paid}
 use Rattle.ruby_runs.specs.Doing.{pay, ask}
 use Rattle.program_values.specs.Standing.{Stands, AllStand}
 

@@ -1,7 +1,7 @@
 -- What is known of an application stands in it.
-use Rattle.std.proofs.Common.{◌≡◌, ℕ, zero, suc, List, [], Option, Some, inl, inr, sym, subst, length}
+use Rattle.std.proofs.Common.{◌≡◌, ℕ, zero, suc, Option, inl, inr, subst, length}
 use Rattle.by_need.specs.Asking.{Done, over}
-use Rattle.by_need.specs.Rounds.{Part, is_task, round, known}
+use Rattle.by_need.specs.Rounds.{Part, round, known}
 use Rattle.by_need.proofs.Rounds.{origin}
 use Rattle.ruby_types.specs.declared.request.Task.{Task}
 use Rattle.ruby_types.specs.declared.request.Task.TheVariants as task
@@ -10,7 +10,7 @@ use Rattle.ruby_types.specs.declared.value.Value.TheVariants.{Nil}
 use Rattle.ruby_runs.specs.Asked.{IsRequest}
 use Rattle.ruby_runs.specs.Doing.{pure}
 use Rattle.ruby_runs.specs.Bodies.{Call}
-use Rattle.program_theory.specs.Applications.{Application, index_in, meaning_in, rules_of}
+use Rattle.program_theory.specs.Applications.{Application, index_in, rules_of}
 use Rattle.program_theory.proofs.Lawful.{rules_lawful}
 use Rattle.program_theory.proofs.Tasks.{tasks_are_no_requests}
 use Rattle.program_values.specs.Guarded.{guarded_meaning}

@@ -10,12 +10,12 @@ use Rattle.ruby_types.specs.declared.request.Task.TheVariants as task
 use Rattle.program_places.specs.Paths.{Name, Path}
 use Rattle.program_places.specs.Places.{Index, Place, Missing, Implicit, Owned, Content, Faulty, Assigned, Opened}
 use Rattle.program_places.specs.Tasks.{EachIs}
-use Rattle.ruby_runs.specs.Doing.{Doing, Here, ask}
+use Rattle.ruby_runs.specs.Doing.{Doing, Here}
 use Rattle.ruby_runs.specs.BuiltIns.{BuiltIns}
-use Rattle.ruby_runs.specs.Names.{Found, members_of, is_there, innermost, own_at, owned, search, asked_ancestors}
-use Rattle.ruby_runs.specs.Names.{ancestors_at, ancestors, is_near, is_assigned, asked_constant, refer_at, refer}
+use Rattle.ruby_runs.specs.Names.{Found, members_of, is_there, innermost, own_at, search, asked_ancestors}
+use Rattle.ruby_runs.specs.Names.{ancestors_at, ancestors, is_near, is_assigned, refer_at, refer}
 use Rattle.ruby_runs.specs.Names.{or_else, at_top, inherited, inherited_by, bare, qualified, qualified_in}
-use Rattle.ruby_runs.specs.Names.{segment_turn, rest_of_names, first_name, whole_name, resolved, uninitialized}
+use Rattle.ruby_runs.specs.Names.{segment_turn, rest_of_names, first_name, whole_name, resolved}
 use Rattle.program_values.specs.Standing.{is_module_at, Stands, AllStand, IsNamed}
 use Rattle.program_values.proofs.Values.{nil_stands, module_stands, members_stand, IsModule}
 use Rattle.program_values.proofs.Keeps.{Keeps, Any, pure_keeps, bind_keeps, keeps_less, raise_keeps, fail_keeps}

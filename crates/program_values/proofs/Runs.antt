@@ -1,13 +1,12 @@
 -- Runs of tasks and requests over values that stand come to a value that stands, and their calls may be guarded.
-use Rattle.std.proofs.Common.{◌≡◌, ℕ, zero, suc, Bool, true, false, ◌&&◌, ◌||◌, List, [], ◌∷◌, ◌++◌, map, Option, Some}
-use Rattle.std.proofs.Common.{None, refl, sym, ap, ◌∙◌, codes}
-use Rattle.std.specs.Prelude.{if◌then◌else◌}
+use Rattle.std.proofs.Common.{◌≡◌, ℕ, zero, suc, Bool, true, false, ◌||◌, List, [], ◌∷◌, ◌++◌, map, Option, Some}
+use Rattle.std.proofs.Common.{None, refl, sym, ap}
 use Rattle.std.specs.List.{list_any}
 use Rattle.std.proofs.lemmas.Bool.{and_from, false≢true}
 use Rattle.ruby_types.specs.declared.value.Value as value
 use Rattle.ruby_types.specs.declared.value.Value.{Value-F, out-Value}
 use Rattle.ruby_types.specs.declared.value.Value.TheOpen as layer
-use Rattle.ruby_types.specs.declared.value.Value.TheVariants.{Nil, Hash, Array, Module}
+use Rattle.ruby_types.specs.declared.value.Value.TheVariants.{Nil, Hash, Module}
 use Rattle.ruby_types.specs.declared.request.ErrorClass.TheVariants as class
 use Rattle.ruby_types.specs.declared.request.Request.{Request}
 use Rattle.ruby_types.specs.declared.request.Task.{Task}
@@ -19,8 +18,7 @@ use Rattle.program_places.specs.Tasks.{EachIs}
 use Rattle.ruby_runs.specs.declared.NoReply.TheVariants.{NoController, NoAction}
 use Rattle.ruby_runs.specs.Doing.{Here}
 use Rattle.ruby_runs.specs.BuiltIns.{BuiltIns}
-use Rattle.ruby_runs.specs.Names.{Found}
-use Rattle.ruby_runs.specs.Bodies.{Call, call_in, frames_of, is_class_at}
+use Rattle.ruby_runs.specs.Bodies.{Call, frames_of, is_class_at}
 use Rattle.ruby_runs.specs.Runs.{Limits, with_path, with_paths, from_last, file_here, request_here, self_around}
 use Rattle.ruby_runs.specs.Runs.{ask_all, file_run, const_run, looked_up, parent_members, is_no_module}
 use Rattle.ruby_runs.specs.Runs.{include_members, all_members, ancestors_of, ancestors_run, action_call, action_of}
@@ -33,7 +31,7 @@ use Rattle.program_values.proofs.Values.{each_of_both, either_has, each_is_true,
 use Rattle.program_values.proofs.Values.{module_stands, modules_stand, IsModule}
 use Rattle.program_values.proofs.Keeps.{Keeps, Agree, Any, pure_keeps, bind_keeps, raise_keeps, fail_keeps, end_keeps}
 use Rattle.program_values.proofs.Keeps.{turn_keeps, ask_keeps, either_keeps}
-use Rattle.program_values.proofs.Names.{FoundStands, IsThere, refer_keeps, resolved_keeps, module_ancestors_keep}
+use Rattle.program_values.proofs.Names.{FoundStands, refer_keeps, resolved_keeps, module_ancestors_keep}
 use Rattle.program_values.proofs.Bodies.{CallKeeps, FramesKeep, no_frame, a_frame, eval_keeps, invoke_keeps}
 use Rattle.program_values.proofs.Bodies.{singleton_keeps, call_in_keeps}
 

@@ -1,5 +1,5 @@
 -- When a value stands, by its level; and what variables, hashes and lists of ancestors have in them.
-use Rattle.std.proofs.Common.{◌≡◌, ℕ, Bool, true, false, ◌&&◌, List, [], ◌∷◌, ◌++◌, map, Option, Some, None, refl}
+use Rattle.std.proofs.Common.{◌≡◌, ℕ, Bool, true, false, ◌&&◌, List, [], ◌∷◌, ◌++◌, map, refl}
 use Rattle.std.proofs.Common.{sym, ap}
 use Rattle.std.proofs.Common.{◌∙◌, bytes_eq}
 use Rattle.std.specs.Prelude.{if◌then◌else◌, filter_map}

@@ -1,6 +1,6 @@
 -- Runs whose calls are guarded: where a receiver or an argument names what doesn't stand in the application, something
 -- else is done.
-use Rattle.std.specs.Prelude.{ℕ, zero, suc, Bool, true, ◌&&◌, if◌then◌else◌, List, [], ◌∷◌, map, Option, Some, None}
+use Rattle.std.specs.Prelude.{ℕ, zero, suc, ◌&&◌, if◌then◌else◌, List, [], ◌∷◌, map, Option, Some, None}
 use Rattle.by_need.specs.Asking.{Gives, Value, Other}
 use Rattle.ruby_types.specs.declared.value.Value as value
 use Rattle.ruby_types.specs.declared.value.Value.{Value-F, out-Value}
