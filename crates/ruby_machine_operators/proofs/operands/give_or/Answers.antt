@@ -1,0 +1,9 @@
+use Rattle.std.proofs.Common.{sym, ◌∙◌}
+use Rattle.ruby_machine_operators.proofs.Choices.{or_ends, or_goes}
+use Rattle.ruby_machine_operators.proofs.operands.give_or.Goals as goal
+
+pub returns-then-is_truthy : goal.returns-then-is_truthy
+returns-then-is_truthy c i k m = or_ends i k m c.args.left c.args.right (sym c.is_truthy.ensures ∙ c.if-is_truthy.true)
+
+pub returns-else-is_truthy : goal.returns-else-is_truthy
+returns-else-is_truthy c i k m = or_goes i k m c.args.left c.args.right (sym c.is_truthy.ensures ∙ c.if-is_truthy.false)
