@@ -18,11 +18,12 @@ use Rattle.ruby_parse_cursor.specs.declared.fault.Fault.{Fault}
 use Rattle.ruby_parse_cursor.specs.declared.fault.Fault.TheVariants as f
 use Rattle.ruby_parse_steps.specs.Gives.{Gives, GivesRule}
 use Rattle.ruby_parse_steps.proofs.Descent.{g_give, g_chosen, g_skip, g_nothing}
+use Rattle.ruby_parse_steps.proofs.WordLaws.{apart}
 use Rattle.ruby_parse_statement.specs.declared.blocks.Block.{Block as Held}
 use Rattle.ruby_parse_statement.specs.Answers.{block_as}
 use Rattle.ruby_parse_statement.specs.Arms.{tested, test_then, arm_then, GivesTest, GivesRest, GivesArms, GivesElse}
 use Rattle.ruby_parse_statement.proofs.Steps.{skips, lacks, fails, value_then, value_fails, rule_then, rule_fails}
-use Rattle.ruby_parse_statement.proofs.Steps.{picked, unmade, apart}
+use Rattle.ruby_parse_statement.proofs.Steps.{picked, unmade}
 
 -- ---- a Line, perhaps
 -- A Line that may stand there, where it does.

@@ -16,8 +16,9 @@ use Rattle.ruby_parse_cursor.specs.declared.fault.Fault.{Fault}
 use Rattle.ruby_parse_cursor.specs.declared.fault.Fault.TheVariants as f
 use Rattle.ruby_parse_steps.specs.Gives.{Gives, GivesRule}
 use Rattle.ruby_parse_steps.proofs.Descent.{g_give, g_chosen, g_skip, g_then, g_fails, g_deep}
+use Rattle.ruby_parse_steps.proofs.WordLaws.{apart}
 use Rattle.ruby_parse_statement.specs.Arms.{arm_then}
-use Rattle.ruby_parse_statement.proofs.Steps.{skips, rule_then, rule_fails, picked, apart, unmade}
+use Rattle.ruby_parse_statement.proofs.Steps.{skips, rule_then, rule_fails, picked, unmade}
 use Rattle.ruby_parse_statement.specs.Answers.{known_as, conditioned, GivesCondition}
 use Rattle.ruby_types.specs.declared.tree.Expr.{Expr}
 use Rattle.std.specs.Prelude.{IfOk, IfErr, Option}

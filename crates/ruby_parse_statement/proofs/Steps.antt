@@ -1,13 +1,11 @@
 -- Steps of the reading of one statement.
-use Rattle.std.proofs.Common.{◌≡◌, ℕ, Bool, true, false, ◌==◌, ◌≤◌, ◌<◌, ◌-◌, List, [], ◌∷◌, drop, length, refl, sym}
-use Rattle.std.proofs.Common.{ap, ◌∙◌, subst, arith, Result, Ok, Err}
-use Rattle.std.proofs.lemmas.Bool.Decides.{nat_tests}
-use Rattle.std.proofs.lemmas.List.{length-drop}
+use Rattle.std.proofs.Common.{◌≡◌, Bool, true, false, List, [], ◌∷◌, drop, sym}
+use Rattle.std.proofs.Common.{subst, Result, Ok, Err}
+use Rattle.std.proofs.lemmas.Bool.{eqb-true}
 use Rattle.ruby_types.specs.declared.tree.Expr.{Expr}
 use Rattle.descent.specs.Grammar.{Prod, give, token, call}
 use Rattle.descent.specs.Reading.{take, head, choose}
 use Rattle.ruby_grammar.specs.Words.{Word}
-use Rattle.ruby_grammar.specs.Terminals.{is, terminal}
 use Rattle.ruby_grammar.specs.Rules.{ruby, Sort, Val, Rule, Known, Scope, a_statement, expression}
 use Rattle.ruby_grammar.specs.Choices.{ruby_choices, next_is}
 use Rattle.ruby_parse_cursor.specs.declared.fault.Fault.{Fault}
@@ -80,23 +78,5 @@ pub unmade : (p : Prod ruby a_statement) (ws rest : List Word) (e : Fault) → e
 unmade p ws rest e u = subst (λ x. Gives p ws (Err x) rest) (sym u) (g_memory {s = a_statement} p ws rest)
 
 -- ---- words of two terminals
-is_same : (m n : ℕ) → (m == n) ≡ true → m ≡ n
-is_same m n h = grind (arith, nat_tests)
-
--- A word of one terminal has no other.
-pub apart : (m n : ℕ) (ws : List Word) → (m == n) ≡ false → next_is (is m) (head ws) ≡ true →
-    next_is (is n) (head ws) ≡ false
-apart m n [] d p = refl
-apart m n (w ∷ ws) d p = subst (λ k. (k == n) ≡ false) (sym (is_same (terminal w) m p)) d
 
 -- ---- lengths
--- Behind a word that was skipped fewer words are left.
-pub skip_falls : (test : Word → Bool) (ws mid : List Word) → next_is test (head ws) ≡ true → mid ≡ drop 1 ws →
-    length mid < length ws
-skip_falls test [] mid t d = absurd (cc)
-skip_falls test (w ∷ ws) mid t d = let a : length mid ≡ length (w ∷ ws) - 1 = ap length d ∙ length-drop 1 (w ∷ ws) in
-    omega (arith, a)
-
--- Words behind the first are not more.
-pub drop_shorter : (ws mid : List Word) → mid ≡ drop 1 ws → length mid ≤ length ws
-drop_shorter ws mid d = let a : length mid ≡ length ws - 1 = ap length d ∙ length-drop 1 ws in omega (arith, a)

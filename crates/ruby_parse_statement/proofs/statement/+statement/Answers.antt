@@ -6,9 +6,9 @@ use Rattle.ruby_grammar.specs.Rules as rules
 use Rattle.ruby_grammar.specs.Statements.{known, block}
 use Rattle.ruby_types.specs.declared.tree.Stmt.TheVariants as stmt
 use Rattle.ruby_parse_steps.specs.Gives.{GivesRule}
+use Rattle.ruby_parse_steps.proofs.WordLaws.{skip_falls, drop_shorter}
 use Rattle.ruby_parse_statement.specs.Answers.{known_as}
 use Rattle.ruby_parse_statement.specs.Places.{around_view}
-use Rattle.ruby_parse_statement.proofs.Steps.{skip_falls, drop_shorter}
 use Rattle.ruby_parse_statement.proofs.StatementLaws.{block_deep, block_opens, statements_end, statements_break}
 use Rattle.ruby_parse_statement.proofs.StatementLaws.{statement_and_line, statement_without_line}
 use Rattle.ruby_parse_statement.proofs.BlockLaws.{begun, further_arm, rest_is_else, rest_is_elsif, rest_is_nothing}
