@@ -6,6 +6,7 @@ use Rattle.std.specs.Prelude.{bytes_eq, map, if◌then◌else◌}
 use Rattle.std.specs.List.{list_any}
 use Rattle.std.proofs.lemmas.Slice.Eq.{bytes_eq-Decides}
 use Rattle.std.proofs.lemmas.List.Folds.{list_any-append}
+use Rattle.std.proofs.lemmas.Bool.{eqb-true}
 use Rattle.indexmap.specs.IndexSet.{insert_key}
 use Rattle.ruby_grammar.specs.Marks.{Mark, Act, assigns, opens_module, opens_class, gives_parent, defines, same_path}
 use Rattle.ruby_grammar.specs.Marks.{acts_clash, same_flag, clash}
@@ -18,7 +19,7 @@ use Rattle.ruby_parse_marks.specs.Paths.{path_at, AreNumbered}
 use Rattle.ruby_parse_marks.specs.Deeds.{Done, same_method, has_number, clashes_at, with_number, done_at}
 use Rattle.ruby_parse_marks.specs.Views.{act_view, Deed, clashes_with}
 use Rattle.ruby_parse_marks.specs.Noted.{deed_at, method_at, deeds_at, AreWithin, HaveBodies}
-use Rattle.ruby_parse_marks.proofs.PathLaws.{one_path, equal_is}
+use Rattle.ruby_parse_marks.proofs.PathLaws.{one_path}
 
 -- ---- what an act clashes with
 and_or : (a b c : Bool) → ((a && c) || (b && c)) ≡ ((a || b) && c)
@@ -214,7 +215,7 @@ module _ (rs : List (Inner × ℕ)) (n : ℕ) (x : Mark) where
   number_more : (b : Act) (ns : List ℕ) → list_any p (map (deed_at rs b) (with_number ns n))
       ≡ (p (deed_at rs b n) || list_any p (map (deed_at rs b) ns))
   number_more b ns = inserted (λ a c. a == c) (deed_at rs b) p n
-      (λ m e. ap (λ v. p (deed_at rs b v)) (sym (equal_is n m e))) ns
+      (λ m e. ap (λ v. p (deed_at rs b v)) (sym (eqb-true n m e))) ns
 
   both : (a b : Bool) → (a && b) ≡ true → (a ≡ true) × (b ≡ true)
   both true b h = (refl, h)
@@ -231,7 +232,7 @@ module _ (rs : List (Inner × ℕ)) (n : ℕ) (x : Mark) where
       let a = both (k.body == m.body) _ h in
       let b = both (same_flag k.single m.single) _ a.1 in
       ap (λ v. p (record { path = path_at rs v; act = defines m.single m.name.items }))
-      (sym (equal_is k.body m.body a.0))
+      (sym (eqb-true k.body m.body a.0))
       ∙ ap (λ v. p (record { path = path_at rs k.body; act = defines v m.name.items }))
       (sym (flag_is k.single m.single b.0))
       ∙ ap (λ v. p (record { path = path_at rs k.body; act = defines k.single v }))

@@ -6,10 +6,11 @@ use Rattle.std.specs.List.{list_any}
 use Rattle.std.specs.Map.{lookup}
 use Rattle.std.specs.Cmp.Lexicographic.{nat_list_eq_equiv}
 use Rattle.std.proofs.lemmas.Bool.Decides.{nat_tests}
-use Rattle.std.proofs.lemmas.Bool.{cond-true, cond-false}
+use Rattle.std.proofs.lemmas.Bool.{cond-true, cond-false, eqb-true, or_parts, and_parts, eq-eqb}
 use Rattle.std.proofs.lemmas.Slice.Eq.{bytes_eq-Decides}
 use Rattle.std.proofs.lemmas.List.{length-append}
 use Rattle.std.proofs.lemmas.List.Folds.{list_any-append}
+use Rattle.std.proofs.Math.Bool.{and-false, and-true, and_assoc}
 use Rattle.ruby_grammar.specs.Marks.{same_path}
 use Rattle.ruby_grammar.specs.Definitions.{at_top}
 use Rattle.ruby_parse_marks.specs.declared.paths.Inner.{Inner}
@@ -60,12 +61,6 @@ one_latest a (x ∷ xs) (inl e) = subst (λ y. IsOne a (latest_first xs ++ y ∷
 one_latest a (x ∷ xs) (inr h) = one_before a (latest_first xs) (x ∷ []) (one_latest a xs h)
 
 -- ---- names in paths
--- numbers of which a test says that they are equal are one
-pub equal_is : (m n : ℕ) → (m == n) ≡ true → m ≡ n
-equal_is m n h = grind (arith, nat_tests)
-
-equal_self : (n : ℕ) → (n == n) ≡ true
-equal_self n = grind (arith, nat_tests)
 
 less_differs : (m n : ℕ) → m < n → (m == n) ≡ false
 less_differs m n h = grind (arith, nat_tests, h)
@@ -74,7 +69,7 @@ more_differs : (m n : ℕ) → n < m → (m == n) ≡ false
 more_differs m n h = grind (arith, nat_tests, h)
 
 inner_self : (k : Inner) → same_inner k k ≡ true
-inner_self k = ap (λ b. b && bytes_eq k.name.items k.name.items) (equal_self k.outer)
+inner_self k = ap (λ b. b && bytes_eq k.name.items k.name.items) (eq-eqb k.outer k.outer refl)
     ∙ nat_list_eq_equiv.refl k.name.items
 
 numbers_turned : (m n : ℕ) → (m == n) ≡ (n == m)
@@ -87,16 +82,8 @@ inner_turned k l = ap (λ b. b && bytes_eq k.name.items l.name.items) (numbers_t
 none_such : (k : Inner) (es : List (Inner × ℕ)) (e : Inner × ℕ) → list_any (is_inner k) es ≡ false → IsOne e es →
     same_inner k e.0 ≡ false
 none_such k [] e h o = absurd o
-none_such k (x ∷ es) e h (inl s) = subst (λ y. same_inner k y.0 ≡ false) (sym s) (first (is_inner k x) _ h)
-  where
-    first : (a b : Bool) → (a || b) ≡ false → a ≡ false
-    first false b h = refl
-    first true b h = cc
-none_such k (x ∷ es) e h (inr o) = none_such k es e (second (is_inner k x) _ h) o
-  where
-    second : (a b : Bool) → (a || b) ≡ false → b ≡ false
-    second false b h = h
-    second true b h = cc
+none_such k (x ∷ es) e h (inl s) = subst (λ y. same_inner k y.0 ≡ false) (sym s) (or_parts (is_inner k x) _ h).0
+none_such k (x ∷ es) e h (inr o) = none_such k es e (or_parts (is_inner k x) _ h).1 o
 
 -- ---- paths of numbers
 -- an older path stays
@@ -115,7 +102,7 @@ placed [] e h o = absurd o
 placed (x ∷ older) e h (inl s) = subst (λ y. Placed (x ∷ older) y) (sym s) (record {
   within = omega (arith, h.0);
   behind = omega (arith, h.0, h.1);
-  path = cond-true _ _ _ (equal_self x.1)
+  path = cond-true _ _ _ (eq-eqb x.1 x.1 refl)
       ∙ ap (λ l. l ++ x.0.name.items ∷ []) (sym (path_stays x older x.0.outer h.0 h.1));
 })
 placed (x ∷ older) e h (inr o) =
@@ -143,7 +130,7 @@ met [] n h l = at_top_met (omega (arith, l)) refl
 met (x ∷ older) n h l = by (n == x.1) refl (λ s. met older n h.3 s)
   where
     by : (b : Bool) → (n == x.1) ≡ b → (n ≤ length older → Met older n) → Met (x ∷ older) n
-    by true e k = at_name x (inl refl) (sym (equal_is n x.1 e))
+    by true e k = at_name x (inl refl) (sym (eqb-true n x.1 e))
     by false e k = let s : n ≤ length older = grind (arith, nat_tests, h.0, l, e) in met_more x older n h.0 s (k s)
 
 -- two names have one number where they are one
@@ -152,7 +139,7 @@ one_number : (rs : List (Inner × ℕ)) (e f : Inner × ℕ) → AreNumbered rs 
 one_number [] e f h o p = absurd o
 one_number (x ∷ older) e f h (inl s) (inl t) =
     subst (λ y. same_inner y.0 f.0 ≡ (y.1 == f.1)) (sym s)
-    (subst (λ y. same_inner x.0 y.0 ≡ (x.1 == y.1)) (sym t) (inner_self x.0 ∙ sym (equal_self x.1)))
+    (subst (λ y. same_inner x.0 y.0 ≡ (x.1 == y.1)) (sym t) (inner_self x.0 ∙ sym (eq-eqb x.1 x.1 refl)))
 one_number (x ∷ older) e f h (inl s) (inr p) =
     let q = placed older f h.3 p in
     subst (λ y. same_inner y.0 f.0 ≡ (y.1 == f.1)) (sym s)
@@ -166,37 +153,13 @@ one_number (x ∷ older) e f h (inr o) (inr p) = one_number older e f h.3 o p
 
 same_ends : (p q : List (List ℕ)) (x y : List ℕ) → same_path (p ++ x ∷ []) (q ++ y ∷ [])
     ≡ (same_path p q && bytes_eq x y)
-same_ends [] [] x y = turned (bytes_eq x y)
-  where
-    turned : (b : Bool) → (b && true) ≡ b
-    turned true = refl
-    turned false = refl
-same_ends [] (m ∷ []) x y = never (bytes_eq x m)
-  where
-    never : (b : Bool) → (b && false) ≡ false
-    never true = refl
-    never false = refl
-same_ends [] (m ∷ n ∷ q) x y = never (bytes_eq x m)
-  where
-    never : (b : Bool) → (b && false) ≡ false
-    never true = refl
-    never false = refl
-same_ends (m ∷ []) [] x y = never (bytes_eq m y)
-  where
-    never : (b : Bool) → (b && false) ≡ false
-    never true = refl
-    never false = refl
-same_ends (m ∷ n ∷ p) [] x y = never (bytes_eq m y)
-  where
-    never : (b : Bool) → (b && false) ≡ false
-    never true = refl
-    never false = refl
+same_ends [] [] x y = and-true (bytes_eq x y)
+same_ends [] (m ∷ []) x y = and-false (bytes_eq x m)
+same_ends [] (m ∷ n ∷ q) x y = and-false (bytes_eq x m)
+same_ends (m ∷ []) [] x y = and-false (bytes_eq m y)
+same_ends (m ∷ n ∷ p) [] x y = and-false (bytes_eq m y)
 same_ends (m ∷ p) (n ∷ q) x y = ap (λ b. bytes_eq m n && b) (same_ends p q x y)
-    ∙ assoc (bytes_eq m n) (same_path p q) (bytes_eq x y)
-  where
-    assoc : (a b c : Bool) → (a && (b && c)) ≡ ((a && b) && c)
-    assoc true b c = refl
-    assoc false b c = refl
+    ∙ sym (and_assoc (bytes_eq m n) (same_path p q) (bytes_eq x y))
 
 end_no_top : (p : List (List ℕ)) (x : List ℕ) → same_path [] (p ++ x ∷ []) ≡ false
 end_no_top [] x = refl
@@ -212,7 +175,7 @@ module _ (rs : List (Inner × ℕ)) (h : AreNumbered rs) where
 
   by_names : (m n : ℕ) → ((a b : ℕ) → a < m → b ≤ length rs → AreApart a b) → Met rs m → Met rs n → AreApart m n
   by_names m n before (at_top_met z p) (at_top_met z' p') =
-      ap (λ q. same_path q (path_at rs n)) p ∙ ap (λ q. same_path [] q) p' ∙ sym (rw (z, z') (equal_self 0))
+      ap (λ q. same_path q (path_at rs n)) p ∙ ap (λ q. same_path [] q) p' ∙ sym (rw (z, z') (eq-eqb 0 0 refl))
   by_names m n before (at_top_met z p) (at_name e o s) =
       let q = placed rs e h o in
       ap (λ v. same_path v (path_at rs n)) p ∙ ap (λ v. same_path [] (path_at rs v)) (sym s)
@@ -294,14 +257,10 @@ is_number es fs outer n name h l (k, a, b, inl (c, d)) =
           ∙ ap (λ v. path_at (latest_first es) outer ++ v ∷ []) (sym same.1 ∙ b);
     })
   where
-    both : (x y : Bool) → (x && y) ≡ true → (x ≡ true) × (y ≡ true)
-    both true y h = (refl, h)
-    both false y h = cc
-
     inner_is : (k l : Inner) → same_inner k l ≡ true → (k.outer ≡ l.outer) × (k.name.items ≡ l.name.items)
     inner_is k l h =
-        let p = both (k.outer == l.outer) (bytes_eq k.name.items l.name.items) h in
-        (equal_is k.outer l.outer p.0, (bytes_eq-Decides k.name.items l.name.items).0 p.1)
+        let p = and_parts (k.outer == l.outer) (bytes_eq k.name.items l.name.items) h in
+        (eqb-true k.outer l.outer p.0, (bytes_eq-Decides k.name.items l.name.items).0 p.1)
 is_number es fs outer n name h l (k, a, b, inr (c, d, e)) =
     let size = length_latest es in
     let more : latest_first fs ≡ (k, n) ∷ latest_first es = ap (λ v. latest_first v) e ∙ latest_more es (k, n) in
@@ -320,7 +279,7 @@ is_number es fs outer n name h l (k, a, b, inr (c, d, e)) =
             ∙ path_stays (k, n) (latest_first es) m step (subst (λ v. m ≤ v) (sym size) s);
       };
       within = omega (arith, d, long);
-      path = ap (λ v. path_at v n) more ∙ cond-true _ _ _ (equal_self n)
+      path = ap (λ v. path_at v n) more ∙ cond-true _ _ _ (eq-eqb n n refl)
           ∙ ap (λ v. path_at (latest_first es) v ++ k.name.items ∷ []) a
           ∙ ap (λ v. path_at (latest_first es) outer ++ v ∷ []) b;
     }
@@ -341,7 +300,7 @@ is_top_path rs n h l = by (met rs n h l)
     no_top (m ∷ p) x = refl
 
     by : Met rs n → at_top (path_at rs n) ≡ (n == 0)
-    by (at_top_met z p) = ap (λ v. at_top v) p ∙ sym (ap (λ v. v == 0) z ∙ equal_self 0)
+    by (at_top_met z p) = ap (λ v. at_top v) p ∙ sym (ap (λ v. v == 0) z ∙ eq-eqb 0 0 refl)
     by (at_name e o s) =
         let q = placed rs e h o in
         ap (λ v. at_top (path_at rs v)) (sym s) ∙ ap (λ v. at_top v) q.path
