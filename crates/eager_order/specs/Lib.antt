@@ -1,0 +1,2 @@
+pub mod EagerOrder
+pub mod Placed
