@@ -1,1 +1,3 @@
 pub mod Beginning
+mod Paying
+mod SizeSums

@@ -2,7 +2,9 @@
 #![tactic(auto)]
 
 mod making;
+mod sizes;
 mod truth;
 
 pub use making::made;
+pub use sizes::without_size;
 pub use truth::{boolean, is_truthy};

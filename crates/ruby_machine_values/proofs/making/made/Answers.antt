@@ -1,12 +1,12 @@
-use Rattle.std.proofs.Common.{arith}
-use Rattle.ruby_machine_frames.proofs.Steps.{made_kept, unmade_kept}
+use Rattle.std.proofs.Common.{◌+◌, ◌*◌, refl}
+use Rattle.ruby_machine_values.proofs.Paying.{paid, unpaid}
 use Rattle.ruby_machine_values.proofs.making.made.Goals as goal
 
-pub returns-then-cost-core : goal.returns-then-cost-core
-returns-then-cost-core c i k =
-    made_kept i k c.args.core.now c.args.value c.size-cost.result c.size-cost.ensures (omega arith) c.if-cost-core.true
+pub returns-in-Some : goal.returns-in-Some
+returns-in-Some c i k =
+    paid i k c.args.core.now c.args.value (c.args.core.now.turns * 16 + 15) c.in-Some.rest refl c.in-Some.ensures
 
-pub returns-else-cost-core : goal.returns-else-cost-core
-returns-else-cost-core c i k =
-    unmade_kept i k c.args.core.now c.args.value c.size-cost.result c.size-cost.ensures (omega arith)
-    c.if-cost-core.false c.spent.result c.spent.ensures
+pub returns-in-None : goal.returns-in-None
+returns-in-None c i k =
+    unpaid i k c.args.core.now c.args.value (c.args.core.now.turns * 16 + 15) c.spent.result refl c.in-None.ensures
+    c.spent.ensures
