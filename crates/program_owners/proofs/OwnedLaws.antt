@@ -1,6 +1,6 @@
 -- What the first places of owned constants tell of their owners.
-use Rattle.std.proofs.Common.{◌≡◌, ◌∙◌, ℕ, suc, ◌<◌, Bool, true, false, cond, List, [], ◌∷◌, map, Option, Some, None}
-use Rattle.std.proofs.Common.{slice_get, length, refl, sym, ap, subst}
+use Rattle.std.proofs.Common.{◌≡◌, ◌∙◌, ℕ, suc, ◌<◌, Bool, true, false, cond, List, [], ◌∷◌, Option, Some, None}
+use Rattle.std.proofs.Common.{slice_get, length, refl, sym, ap}
 use Rattle.std.specs.Option.{option_map}
 use Rattle.std.proofs.lemmas.Option.{none-some, same_Some, slice_get-map, slice_get_within}
 use Rattle.program_places.specs.Paths.{Path, same_path}
@@ -42,13 +42,15 @@ no_owner path owned e = sym (owner_first path owned ∙ ap (λ o. file_of (row_a
 pub record RowAt (path : Path) (owned : List Owned) (k : ℕ) : Type 0 where
   pub row : Owned
   pub at : slice_get owned k ≡ Some row
+  pub same : row.path ≡ path
   pub owner : Some row.file ≡ owner_in path owned
 
 row_there : (path : Path) (owned : List Owned) (k : ℕ) (o : Option Owned) → slice_get owned k ≡ o →
     option_map (λ (r : Owned). r.path) o ≡ Some path → owner_in path owned ≡ file_of (slice_get owned k) →
     RowAt path owned k
 row_there path owned k None at there is = absurd (none-some path there)
-row_there path owned k (Some r) at there is = record { row = r; at = at; owner = sym (is ∙ ap file_of at) }
+row_there path owned k (Some r) at there is =
+    record { row = r; at = at; same = same_Some r.path path there; owner = sym (is ∙ ap file_of at) }
 
 -- a constant with a first place has the owner that stands there
 pub row_first : (path : Path) (owned : List Owned) (k : ℕ) → first_place path (owned_paths owned) ≡ Some k →

@@ -1,4 +1,6 @@
 ghost use Rattle.std.specs.Prelude.{◌≡◌, ◌<◌, length, slice_get, Some, IfOk};
+ghost use Rattle.std.specs.Option.{option_map};
+ghost use Rattle.program_constants.specs.Constants.{first_place};
 ghost use Rattle.program_owners.specs.declared.owned.Owned.{Owned as OwnedValue};
 ghost use Rattle.program_owners.specs.Owned.{owned_paths, owner_in};
 
@@ -58,6 +60,23 @@ impl Owners {
         }
         let table = ConstantTable::new(alloc, paths)?;
         Ok(Owners { owned, table })
+    }
+
+    /// The place of a constant's first row, if it has one.
+    pub fn place_of(&self, path: &CPath) -> Option<u32>
+        ensures { result ≡ first_place path.now (owned_paths self.now) }
+    {
+        self.table.first(path)
+    }
+
+    /// The file of the row at this place, if there is one.
+    pub fn file_at(&self, place: u32) -> Option<u32>
+        ensures { result ≡ option_map (λ o. o.file) (slice_get self.now place) }
+    {
+        match self.owned.as_slice().get(place as usize) {
+            Some(row) => Some(row.file),
+            None => None,
+        }
     }
 
     /// The file that owns a constant, if one does.

@@ -1,4 +1,7 @@
-ghost use Rattle.std.specs.Prelude.{◌≡◌, IfOk};
+ghost use Rattle.std.specs.Prelude.{◌≡◌, is_some, slice_get, IfOk};
+ghost use Rattle.std.specs.Option.{option_map};
+ghost use Rattle.program_constants.specs.Constants.{first_place, has_site_among};
+ghost use Rattle.program_owners.specs.Owned.{owned_paths};
 ghost use Rattle.program_standing.specs.Tables.{standing_by, standing_of, is_faulty};
 
 use crate::standing::Standing;
@@ -70,6 +73,34 @@ impl Standings {
         ensures { result ≡ standing_of self.now path.now }
     {
         standing_by(self.owners.owner_of(path), self.spelled.has_site(path))
+    }
+
+    /// The place of a constant's first row among those that files own, if it has one.
+    pub fn place_of(&self, path: &CPath) -> Option<u32>
+        ensures { result ≡ first_place path.now (owned_paths self.now.owned) }
+    {
+        self.owners.place_of(path)
+    }
+
+    /// The file of the row at this place, if there is one.
+    pub fn file_at(&self, place: u32) -> Option<u32>
+        ensures { result ≡ option_map (λ o. o.file) (slice_get self.now.owned place) }
+    {
+        self.owners.file_at(place)
+    }
+
+    /// Whether a file spells the path or a constant inside it.
+    pub fn has_site(&self, path: &CPath) -> bool
+        ensures { result ≡ has_site_among self.now.spelled path.now }
+    {
+        self.spelled.has_site(path)
+    }
+
+    /// Whether a file spells the path.
+    pub fn has_file(&self, path: &CPath) -> bool
+        ensures { result ≡ is_some (first_place path.now self.now.spelled) }
+    {
+        self.spelled.first(path).is_some()
     }
 
     /// Whether the file of this number is at fault.

@@ -1,0 +1,5 @@
+pub mod TableLaws
+pub mod SaidLaws
+pub mod StandLaws
+pub mod ResolvedLaws
+pub mod AskLaws

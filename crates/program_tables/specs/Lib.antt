@@ -1,0 +1,4 @@
+pub mod Tables
+pub mod Said
+pub mod Resolved
+pub mod Asks
