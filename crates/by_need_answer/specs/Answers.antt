@@ -4,6 +4,7 @@ use Rattle.by_need.specs.Asking.{Computation, Done, Raised, Asks, Otherwise, ove
 use Rattle.by_need.specs.Blame.{blame}
 use Rattle.by_need.specs.Rounds.{Rules, Part, is_in, is_task, known}
 use Rattle.by_need_loader.specs.Failures.{cause}
+use Rattle.by_need_loader.specs.Gained.{GainsFor}
 use Rattle.by_need_answer.specs.declared.answer.Answered.{Answered}
 use Rattle.by_need_answer.specs.declared.answer.Answered.TheVariants as answered
 
@@ -19,9 +20,11 @@ Answers r c (answered.Otherwise o) = (over (known r) c).answer ≡ Otherwise o
 Answers {T} r c (answered.Blamed failure) = (u : T) × ((over (known r) c).answer ≡ Asks u)
     × (known r u ≡ None) × (blame r u ≡ cause failure)
 
--- What is left of the run ends as the whole run does, asks for tasks, and goes on over a part of all that is known.
-pub record GoesOn {T V E O : Type 0} (r : Rules T V E O) (whole left : Computation T V E O) (K : T → Option V) :
+-- What is left of a run that was begun over J ends as the whole run does, asks for tasks that the whole asks for, and
+-- goes on over a part of all that is known, which has gained only what these need.
+pub record GoesOn {T V E O : Type 0} (r : Rules T V E O) (whole left : Computation T V E O) (J K : T → Option V) :
     Type 0 where
   pub same : (over (known r) whole).answer ≡ (over (known r) left).answer
-  pub tasks : AsksForTasks r left
+  pub asked : (u : T) → is_in r u (over (known r) left).asked ≡ true → is_in r u (over (known r) whole).asked ≡ true
   pub part : Part K (known r)
+  pub gains : GainsFor r (over (known r) whole).asked J K

@@ -1,8 +1,11 @@
 //! The answer of a run over a table that grows.
 ghost use Rattle.std.specs.Prelude.{◌≡◌, true, None, Some, IfOk, IsNone, IfSome, Option};
+ghost use Rattle.by_need.specs.Asking.{over};
 ghost use Rattle.by_need.specs.Blame.{blame};
+ghost use Rattle.by_need.specs.Load.{Gains};
 ghost use Rattle.by_need.specs.Rounds.{Part, is_task, known};
 ghost use Rattle.by_need_loader.specs.Failures.{cause};
+ghost use Rattle.by_need_loader.specs.Gained.{GainsFor};
 ghost use Rattle.by_need_answer.specs.Answers.{Answers, AsksForTasks};
 
 use by_need_loader::{Failure, Loaded, Next, Program, Table, load};
@@ -33,6 +36,7 @@ fn provide<Y: Program, B: Table<Y::Task, Y::Value>>(
     ensures blamed { IfOk result (λ failed. IfSome failed (λ failure. (known (Y.rules theory.now) task ≡ None)
         × (blame (Y.rules theory.now) task ≡ cause failure))) }
     ensures part { Part (B.at table.new) (known (Y.rules theory.now)) }
+    ensures gains { Gains (Y.rules theory.now) task (B.at table.old) (B.at table.new) }
 {
     if table.defined(&task).is_some() {
         return Ok(None);
@@ -43,7 +47,8 @@ fn provide<Y: Program, B: Table<Y::Task, Y::Value>>(
     }
 }
 
-/// Answers a run that asks for tasks of its program, each of which is loaded where the table lacks it.
+/// Answers a run that asks for tasks of its program, each of which is loaded where the table lacks it. The table gains
+/// only what these tasks need.
 pub fn answer_run<Y: Program, B: Table<Y::Task, Y::Value>>(
     alloc: Global,
     theory: &Y,
@@ -54,6 +59,8 @@ pub fn answer_run<Y: Program, B: Table<Y::Task, Y::Value>>(
     requires part { Part (B.at table.old) (known (Y.rules theory.now)) }
     ensures answers { IfOk result (Answers (Y.rules theory.now) ((Y.runs theory.now).rest running)) }
     ensures part { Part (B.at table.new) (known (Y.rules theory.now)) }
+    ensures gains { GainsFor (Y.rules theory.now)
+        (over (known (Y.rules theory.now)) ((Y.runs theory.now).rest running)).asked (B.at table.old) (B.at table.new) }
 {
     let mut going = running;
     'questions: loop {

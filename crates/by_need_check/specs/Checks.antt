@@ -22,7 +22,3 @@ blamed r (t ∷ ts) = cond (is_some (known r t)) (blamed r ts) ((t, blame r t) �
 -- The causes that failures name.
 abbrev pub causes : {T E O : Type 0} → List (T × Failure T E O) → List (T × Cause T E O)
 causes failed = map (λ (t, failure). (t, cause failure)) failed
-
--- The tasks that were defined, in order.
-abbrev pub defined_tasks : {T V : Type 0} → List (T × V) → List T
-defined_tasks made = map (λ (t, v). t) made

@@ -2,10 +2,11 @@
 ghost use Rattle.std.specs.Prelude.{◌≡◌, IfOk, List};
 ghost use Rattle.by_need.specs.Open.{AllTasks};
 ghost use Rattle.by_need.specs.Rounds.{Part, known};
-ghost use Rattle.by_need_check.specs.Checks.{LoadEach, blamed, causes, defined_tasks};
+ghost use Rattle.by_need_check.specs.Checks.{LoadEach, blamed, causes};
+ghost use Rattle.by_need_loader.specs.Ends.{defined_tasks};
+ghost use Rattle.by_need_loader.specs.Gained.{GainsFor};
 
-use crate::noted::load_noting;
-use by_need_loader::{Failure, Loaded, Program, Table};
+use by_need_loader::{Failure, Loaded, Program, Table, load_noting};
 use std::alloc::{AllocError, Global};
 
 /// What loads of many tasks came to.
@@ -17,7 +18,7 @@ pub struct Checked<T, E, O> {
     pub failed: Vec<(T, Failure<T, E, O>)>,
 }
 
-/// Loads tasks one after another, whatever each comes to.
+/// Loads tasks one after another, whatever each comes to. The table gains only what they need.
 pub fn check_tasks<Y: Program, B: Table<Y::Task, Y::Value>>(
     alloc: Global,
     theory: &Y,
@@ -31,6 +32,7 @@ pub fn check_tasks<Y: Program, B: Table<Y::Task, Y::Value>>(
         × LoadEach (Y.rules theory.now) (B.at table.old) tasks.now made (B.at table.new)
         × (checked.defined.items ≡ defined_tasks made)) }
     ensures part { Part (B.at table.new) (known (Y.rules theory.now)) }
+    ensures gains { GainsFor (Y.rules theory.now) tasks.now (B.at table.old) (B.at table.new) }
 {
     let mut defined = Vec::new(alloc);
     let mut failed = Vec::new(alloc);

@@ -3,7 +3,5 @@
 #![tactic(auto)]
 
 mod check;
-mod noted;
 
 pub use check::{Checked, check_tasks};
-pub use noted::load_noting;

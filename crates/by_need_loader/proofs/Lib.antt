@@ -7,3 +7,5 @@ pub mod Told
 pub mod Turns
 pub mod Keys
 pub mod Goes
+pub mod Gained
+pub mod Notes

@@ -1,5 +1,5 @@
 -- How a load ends.
-use Rattle.std.specs.Prelude.{◌≡◌, List, Option, Some, None, Bool, true, false}
+use Rattle.std.specs.Prelude.{◌≡◌, List, Option, Some, None, Bool, true, false, map}
 use Rattle.by_need.specs.Blame.{blame}
 use Rattle.by_need.specs.Rounds.{Rules, known}
 use Rattle.by_need_loader.specs.Failures.{cause}
@@ -17,6 +17,10 @@ Ends r task K (Failed failure) = (known r task ≡ None) × (blame r task ≡ ca
 abbrev pub is_done : {T E O : Type 0} → Loaded T E O → Bool
 is_done Done = true
 is_done (Failed failure) = false
+
+-- The tasks that were defined, in order.
+abbrev pub defined_tasks : {T V : Type 0} → List (T × V) → List T
+defined_tasks made = map (λ (t, v). t) made
 
 -- The load of a task that was begun over J goes on rightly over K, whatever was defined on the way.
 pub record GoesOn {T V E O R W N : Type 0} (r : Rules T V E O) (m : Runs T V E O R W N) (task : T)

@@ -4,3 +4,4 @@ pub mod Ring
 pub mod Steps
 pub mod Progress
 pub mod Ends
+pub mod Gained

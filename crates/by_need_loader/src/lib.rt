@@ -21,7 +21,7 @@
 //! The last look is at a task whose load is open. So the tasks from there on ask for one another in a ring. It is named
 //! from its least task, and those before it, `a` and `c`, are no part of it. What was defined on the way stays.
 //!
-//! [`load`] does all steps over one table.
+//! [`load`] does all steps over one table, and [`load_noting`] notes what is defined on the way besides.
 //!
 //! # How it works
 //!
@@ -66,4 +66,4 @@ pub mod whole;
 pub use loader::{Failure, LoadStep, Loader};
 pub use program::{Next, Program};
 pub use table::Table;
-pub use whole::{Loaded, load};
+pub use whole::{Loaded, load, load_noting};

@@ -1,7 +1,7 @@
 -- What is noted of a load.
 use Rattle.std.proofs.Common.{◌≡◌, List, [], ◌∷◌, ◌++◌}
 use Rattle.std.proofs.lemmas.List.{append_assoc, map-append}
-use Rattle.by_need_check.specs.Checks.{defined_tasks}
+use Rattle.by_need_loader.specs.Ends.{defined_tasks}
 
 -- a task more is noted, and a value more is made
 pub noted_more : {T V : Type 0} (before noted : List T) (made : List (T × V)) (u copy : T) (v : V) →

@@ -2,9 +2,9 @@ use Rattle.std.proofs.Common.{◌∷◌, [], ◌++◌, lt_trans, sym, ◌∙◌}
 use Rattle.std.proofs.lemmas.List.{append-nil}
 use Rattle.by_need_loader.specs.Progress.{History, nothing_done}
 use Rattle.by_need_loader.proofs.Goes.{begins}
-use Rattle.by_need_loader.proofs.Turns.{defines, defined_part}
-use Rattle.by_need_check.proofs.Notes.{noted_more}
-use Rattle.by_need_check.proofs.noted.load_noting.Goals as goal
+use Rattle.by_need_loader.proofs.Turns.{gains_none, defines, defined_part, defined_gains}
+use Rattle.by_need_loader.proofs.Notes.{noted_more}
+use Rattle.by_need_loader.proofs.whole.load_noting.Goals as goal
 
 pub steps-init : goal.steps-init
 steps-init g c =
@@ -17,8 +17,9 @@ steps-init g c =
         on = begins r (g.Y.Program.runs c.args.theory.now) (g.Y.Theory.laws c.args.theory.now)
             (nothing_done c.args.task J) c.args.task J c.requires.task c.requires.part;
       };
-      part = c.requires.part;
       noted = sym (append-nil c.args.noted.now.items);
+      part = c.requires.part;
+      gains = gains_none r c.args.task J;
     })
 
 pub steps-smaller-in-Look : goal.steps-smaller-in-Look
@@ -50,8 +51,9 @@ steps-preserved-in-Look g c =
     record {
       ready = a.ready;
       at = record { made = h.made; on = a.on };
-      part = c.steps.invariant.part;
       noted = c.steps.invariant.noted;
+      part = c.steps.invariant.part;
+      gains = c.steps.invariant.gains;
     }
 
 pub define-requires : goal.define-requires
@@ -103,11 +105,13 @@ steps-preserved g c =
         made = h.made ++ (c.in-Define.done, c.in-Define.value) ∷ [];
         on = x.0;
       };
-      part = defined_part r laws c.args.task h.at_first h.table L c.in-Define.done c.in-Define.value s.1
-          s.2 s.3 e.new e.old c.steps.invariant.part;
       noted = c.in_ok-push-in-Define.ensures.items ∙ noted_more c.args.noted.now.items c.steps.noted.items h.made
           c.in-Define.done c.in_ok-copy_task-in-Define.field-0 c.in-Define.value c.steps.invariant.noted
           c.in_ok-copy_task-in-Define.ensures;
+      part = defined_part r laws c.args.task h.at_first h.table L c.in-Define.done c.in-Define.value s.1
+          s.2 s.3 e.new e.old c.steps.invariant.part;
+      gains = defined_gains r laws c.args.task h.at_first h.table L c.in-Define.done c.in-Define.value s.1
+          s.2 s.3 e.new e.old c.steps.invariant.gains;
     }
 
 pub returns-in-Done-clause-ends : goal.returns-in-Done-clause-ends
@@ -156,3 +160,6 @@ returns-in-Failed-clause-order g c =
 
 pub returns-in_err-define-in-Define-clause-part : goal.returns-in_err-define-in-Define-clause-part
 returns-in_err-define-in-Define-clause-part g c = rw c.in_err-define-in-Define.ensures.err c.steps.invariant.part
+
+pub returns-in_err-define-in-Define-clause-gains : goal.returns-in_err-define-in-Define-clause-gains
+returns-in_err-define-in-Define-clause-gains g c = rw c.in_err-define-in-Define.ensures.err c.steps.invariant.gains

@@ -1,10 +1,10 @@
 use Rattle.std.proofs.Common.{◌≡◌, ◌++◌}
+use Rattle.by_need.specs.Load.{Gains}
 use Rattle.by_need.specs.Rounds.{Part, known}
-use Rattle.by_need_loader.specs.Ends.{GoesOn}
+use Rattle.by_need_loader.specs.Ends.{GoesOn, defined_tasks}
 use Rattle.by_need_loader.specs.Steps.{IsReady}
 use Rattle.by_need_loader.specs.Progress.{left_to_do, nothing_done}
-use Rattle.by_need_check.specs.Checks.{defined_tasks}
-use Rattle.by_need_check.proofs.noted.load_noting.Given as goal
+use Rattle.by_need_loader.proofs.whole.load_noting.Given as goal
 
 abbrev pub invariant-steps : goal.invariant-steps
 invariant-steps g l = record {
@@ -13,6 +13,7 @@ invariant-steps g l = record {
       (g.B.Table.at l.table) l.loader;
   noted : l.noted.items ≡ l.initial.noted.items ++ defined_tasks at.made;
   part : Part (g.B.Table.at l.table) (known (g.Y.Theory.rules l.theory));
+  gains : Gains (g.Y.Theory.rules l.theory) l.fn.task (g.B.Table.at l.initial.table) (g.B.Table.at l.table);
 }
 
 abbrev pub decreases-steps : goal.decreases-steps
