@@ -27,7 +27,8 @@ module _ (index : Index) (known : List Entry) where
   -- the parts of a text from a node on
   abbrev pub parts_left : ℕ → Bool → List ℕ → Core → Meaning
   parts_left more inside bytes m =
-      parts_from index known m.left (here_of m.here) more inside bytes (state_of m.state) m.turns (gives_of index known m)
+      parts_from index known m.left (here_of m.here) more inside bytes (state_of m.state) m.turns (gives_of index
+      known m)
 
   -- the end of a text
   abbrev pub text_left : Bool → List ℕ → Core → Meaning

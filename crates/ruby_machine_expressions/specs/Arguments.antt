@@ -14,7 +14,8 @@ module _ (index : Index) (known : List Entry) where
   -- the arguments of a call from a node on, behind those that are done, and then the call
   abbrev pub args_left : Value → Name → ℕ → List Value → Core → Meaning
   args_left on name more done m =
-      args_from index known m.left (here_of m.here) on name more done (state_of m.state) m.turns (gives_of index known m)
+      args_from index known m.left (here_of m.here) on name more done (state_of m.state) m.turns (gives_of index known
+      m)
 
   -- the same on self
   abbrev pub own_args_left : Name → ℕ → Core → Meaning

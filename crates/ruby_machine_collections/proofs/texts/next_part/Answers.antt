@@ -31,7 +31,8 @@ returns-in-Inside c i =
     (parts_left i k c.args.first c.args.inside c.args.bytes.items m) (load m + 5) (load m + 9) c.push_eval.result
     c.push_eval.new.self
     (c.parts.invariant.goes i
-    ∙ inside_goes i k m c.parts.at c.in-Inside.expr c.in-Inside.others c.args.inside c.parts.bytes c.in-Inside.ensures.0)
+    ∙ inside_goes i k m c.parts.at c.in-Inside.expr c.in-Inside.others c.args.inside c.parts.bytes
+    c.in-Inside.ensures.0)
     (omega arith)
     (subst (λ o. KeptFrom i k (pushes i k o (frame.Inside c.in-Inside.others c.parts.bytes) c.in-Inside.expr)
     (load o + 5) c.push_eval.result c.push_eval.new.self) c.parts.invariant.stays (c.push_eval.ensures i k))

@@ -41,7 +41,8 @@ returns-in-Choose g c =
     let k = g.P.Lookups.entries c.args.program.now in
     let m = c.args.core.now in
     let flow = GoesOn (state_of m.state) c.args.value in
-    resumed i k m m (Ok c.give_choose.result) c.args.frame (frame.Choose c.in-Choose.taken c.in-Choose.other) flow c.in-Choose.is
+    resumed i k m m (Ok c.give_choose.result) c.args.frame (frame.Choose c.in-Choose.taken c.in-Choose.other) flow
+    c.in-Choose.is
     (c.give_choose.ensures i k m)
 
 pub returns-in-Items : goal.returns-in-Items
@@ -50,7 +51,8 @@ returns-in-Items g c =
     let k = g.P.Lookups.entries c.args.program.now in
     let m = c.args.core.now in
     let flow = GoesOn (state_of m.state) c.args.value in
-    resumed i k m c.give_item.new.core c.give_item.result c.args.frame (frame.Items c.in-Items.more c.in-Items.done) flow c.in-Items.is
+    resumed i k m c.give_item.new.core c.give_item.result c.args.frame (frame.Items c.in-Items.more c.in-Items.done)
+    flow c.in-Items.is
     (subst (λ x. KeptFrom i x (frame_meaning i x m (frame.Items c.in-Items.more c.in-Items.done) flow) (load m + 9)
     c.give_item.result c.give_item.new.core) c.nodes.ensures (c.give_item.ensures i))
 
@@ -60,8 +62,10 @@ returns-in-Pair g c =
     let k = g.P.Lookups.entries c.args.program.now in
     let m = c.args.core.now in
     let flow = GoesOn (state_of m.state) c.args.value in
-    resumed i k m c.give_pair.new.core c.give_pair.result c.args.frame (frame.Pair c.in-Pair.key c.in-Pair.more c.in-Pair.done) flow c.in-Pair.is
-    (subst (λ x. KeptFrom i x (frame_meaning i x m (frame.Pair c.in-Pair.key c.in-Pair.more c.in-Pair.done) flow) (load m + 9)
+    resumed i k m c.give_pair.new.core c.give_pair.result c.args.frame (frame.Pair c.in-Pair.key c.in-Pair.more
+    c.in-Pair.done) flow c.in-Pair.is
+    (subst (λ x. KeptFrom i x (frame_meaning i x m (frame.Pair c.in-Pair.key c.in-Pair.more c.in-Pair.done) flow)
+    (load m + 9)
     c.give_pair.result c.give_pair.new.core) c.nodes-in-Pair.ensures (c.give_pair.ensures i))
 
 pub returns-in-Inside : goal.returns-in-Inside
@@ -70,7 +74,8 @@ returns-in-Inside g c =
     let k = g.P.Lookups.entries c.args.program.now in
     let m = c.args.core.now in
     let flow = GoesOn (state_of m.state) c.args.value in
-    resumed i k m c.give_inside.new.core c.give_inside.result c.args.frame (frame.Inside c.in-Inside.more c.in-Inside.bytes) flow c.in-Inside.is
+    resumed i k m c.give_inside.new.core c.give_inside.result c.args.frame (frame.Inside c.in-Inside.more
+    c.in-Inside.bytes) flow c.in-Inside.is
     (subst (λ x. KeptFrom i x (frame_meaning i x m (frame.Inside c.in-Inside.more c.in-Inside.bytes) flow) (load m + 9)
     c.give_inside.result c.give_inside.new.core) c.nodes-in-Inside.ensures (c.give_inside.ensures i))
 
@@ -80,8 +85,10 @@ returns-in-Branch g c =
     let k = g.P.Lookups.entries c.args.program.now in
     let m = c.args.core.now in
     let flow = GoesOn (state_of m.state) c.args.value in
-    resumed i k m c.branched.new.core c.branched.result c.args.frame (frame.Branch c.in-Branch.taken c.in-Branch.arms c.in-Branch.other) flow c.in-Branch.is
-    (subst (λ x. KeptFrom i x (frame_meaning i x m (frame.Branch c.in-Branch.taken c.in-Branch.arms c.in-Branch.other) flow) (load m + 9)
+    resumed i k m c.branched.new.core c.branched.result c.args.frame (frame.Branch c.in-Branch.taken c.in-Branch.arms
+    c.in-Branch.other) flow c.in-Branch.is
+    (subst (λ x. KeptFrom i x (frame_meaning i x m (frame.Branch c.in-Branch.taken c.in-Branch.arms c.in-Branch.other)
+    flow) (load m + 9)
     c.branched.result c.branched.new.core) c.nodes-in-Branch.ensures (c.branched.ensures i))
 
 pub returns-in-Key : goal.returns-in-Key
@@ -90,7 +97,8 @@ returns-in-Key g c =
     let k = g.P.Lookups.entries c.args.program.now in
     let m = c.args.core.now in
     let flow = GoesOn (state_of m.state) c.args.value in
-    resumed i k m c.give_key.new.core c.give_key.result c.args.frame (frame.Key c.in-Key.expr c.in-Key.more c.in-Key.done) flow c.in-Key.is
+    resumed i k m c.give_key.new.core c.give_key.result c.args.frame (frame.Key c.in-Key.expr c.in-Key.more
+    c.in-Key.done) flow c.in-Key.is
     (c.give_key.ensures i k)
 
 pub returns-in-Receiver : goal.returns-in-Receiver
@@ -99,7 +107,8 @@ returns-in-Receiver g c =
     let k = g.P.Lookups.entries c.args.program.now in
     let m = c.args.core.now in
     let flow = GoesOn (state_of m.state) c.args.value in
-    resumed i k m c.give_receiver.new.core c.give_receiver.result c.args.frame (frame.Receiver c.in-Receiver.name c.in-Receiver.first) flow c.in-Receiver.is
+    resumed i k m c.give_receiver.new.core c.give_receiver.result c.args.frame (frame.Receiver c.in-Receiver.name
+    c.in-Receiver.first) flow c.in-Receiver.is
     c.give_receiver.ensures
 
 pub returns-in-Args : goal.returns-in-Args
@@ -108,7 +117,8 @@ returns-in-Args g c =
     let k = g.P.Lookups.entries c.args.program.now in
     let m = c.args.core.now in
     let flow = GoesOn (state_of m.state) c.args.value in
-    resumed i k m c.give_argument.new.core c.give_argument.result c.args.frame (frame.Args c.in-Args.on c.in-Args.name c.in-Args.more c.in-Args.done) flow c.in-Args.is
+    resumed i k m c.give_argument.new.core c.give_argument.result c.args.frame (frame.Args c.in-Args.on c.in-Args.name
+    c.in-Args.more c.in-Args.done) flow c.in-Args.is
     c.give_argument.ensures
 
 pub returns-in-Names : goal.returns-in-Names
@@ -126,7 +136,8 @@ returns-in-Singleton g c =
     let k = g.P.Lookups.entries c.args.program.now in
     let m = c.args.core.now in
     let flow = GoesOn (state_of m.state) c.args.value in
-    resumed i k m c.resume_singleton.new.core c.resume_singleton.result c.args.frame (frame.Singleton c.in-Singleton.path c.in-Singleton.name c.in-Singleton.args) flow c.in-Singleton.is
+    resumed i k m c.resume_singleton.new.core c.resume_singleton.result c.args.frame (frame.Singleton
+    c.in-Singleton.path c.in-Singleton.name c.in-Singleton.args) flow c.in-Singleton.is
     c.resume_singleton.ensures
 
 pub returns-in-Instance : goal.returns-in-Instance
@@ -135,7 +146,8 @@ returns-in-Instance g c =
     let k = g.P.Lookups.entries c.args.program.now in
     let m = c.args.core.now in
     let flow = GoesOn (state_of m.state) c.args.value in
-    resumed i k m c.resume_instance.new.core c.resume_instance.result c.args.frame (frame.Instance c.in-Instance.on c.in-Instance.name c.in-Instance.args) flow c.in-Instance.is
+    resumed i k m c.resume_instance.new.core c.resume_instance.result c.args.frame (frame.Instance c.in-Instance.on
+    c.in-Instance.name c.in-Instance.args) flow c.in-Instance.is
     c.resume_instance.ensures
 
 pub returns-in-Initialize : goal.returns-in-Initialize
@@ -144,7 +156,8 @@ returns-in-Initialize g c =
     let k = g.P.Lookups.entries c.args.program.now in
     let m = c.args.core.now in
     let flow = GoesOn (state_of m.state) c.args.value in
-    resumed i k m c.resume_initialize.new.core c.resume_initialize.result c.args.frame (frame.Initialize c.in-Initialize.path c.in-Initialize.args) flow c.in-Initialize.is
+    resumed i k m c.resume_initialize.new.core c.resume_initialize.result c.args.frame (frame.Initialize
+    c.in-Initialize.path c.in-Initialize.args) flow c.in-Initialize.is
     c.resume_initialize.ensures
 
 pub returns-in-Set : goal.returns-in-Set
@@ -153,7 +166,8 @@ returns-in-Set g c =
     let k = g.P.Lookups.entries c.args.program.now in
     let m = c.args.core.now in
     let flow = GoesOn (state_of m.state) c.args.value in
-    resumed i k m c.assigned_local.new.core c.assigned_local.result c.args.frame (frame.Set c.in-Set.name c.in-Set.next) flow c.in-Set.is
+    resumed i k m c.assigned_local.new.core c.assigned_local.result c.args.frame (frame.Set c.in-Set.name
+    c.in-Set.next) flow c.in-Set.is
     (c.assigned_local.ensures i k)
 
 pub returns-in-SetIvar : goal.returns-in-SetIvar
@@ -162,7 +176,8 @@ returns-in-SetIvar g c =
     let k = g.P.Lookups.entries c.args.program.now in
     let m = c.args.core.now in
     let flow = GoesOn (state_of m.state) c.args.value in
-    resumed i k m c.assigned_variable.new.core c.assigned_variable.result c.args.frame (frame.SetIvar c.in-SetIvar.name c.in-SetIvar.next) flow c.in-SetIvar.is
+    resumed i k m c.assigned_variable.new.core c.assigned_variable.result c.args.frame (frame.SetIvar
+    c.in-SetIvar.name c.in-SetIvar.next) flow c.in-SetIvar.is
     (c.assigned_variable.ensures i k)
 
 pub returns-in-Leave : goal.returns-in-Leave
@@ -180,7 +195,8 @@ returns-in-LeaveNew g c =
     let k = g.P.Lookups.entries c.args.program.now in
     let m = c.args.core.now in
     let flow = GoesOn (state_of m.state) c.args.value in
-    resumed i k m c.leave_new.new.core c.leave_new.result c.args.frame (frame.LeaveNew c.in-LeaveNew.caller) flow c.in-LeaveNew.is
+    resumed i k m c.leave_new.new.core c.leave_new.result c.args.frame (frame.LeaveNew c.in-LeaveNew.caller) flow
+    c.in-LeaveNew.is
     (c.leave_new.ensures i k flow refl)
 
 pub returns-in-Then : goal.returns-in-Then
@@ -189,7 +205,8 @@ returns-in-Then g c =
     let k = g.P.Lookups.entries c.args.program.now in
     let m = c.args.core.now in
     let flow = GoesOn (state_of m.state) c.args.value in
-    resumed i k m m (Ok (control.Runs c.in-Then.next c.args.value)) c.args.frame (frame.Then c.in-Then.next) flow c.in-Then.is
+    resumed i k m m (Ok (control.Runs c.in-Then.next c.args.value)) c.args.frame (frame.Then c.in-Then.next) flow
+    c.in-Then.is
     (refl, omega arith)
 
 pub returns-in-Return : goal.returns-in-Return

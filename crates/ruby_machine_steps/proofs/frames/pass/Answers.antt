@@ -21,7 +21,8 @@ returns-in-LeaveNew g c =
     let k = g.P.Lookups.entries c.args.program.now in
     let m = c.args.core.now in
     let flow = Returns (state_of m.state) c.args.value in
-    resumed i k m c.leave_new.new.core c.leave_new.result c.args.frame (frame.LeaveNew c.in-LeaveNew.caller) flow c.in-LeaveNew.is
+    resumed i k m c.leave_new.new.core c.leave_new.result c.args.frame (frame.LeaveNew c.in-LeaveNew.caller) flow
+    c.in-LeaveNew.is
     (c.leave_new.ensures i k flow refl)
 
 pub returns : goal.returns
