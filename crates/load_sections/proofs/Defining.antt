@@ -107,7 +107,7 @@ module _ {M T V P Q R F E O G W N : Type 0} (f : Facts T V P Q R F) (equal : Sam
       define_guard s.seats seat ≡ None → f.known s.counts.program task ≡ Some value →
       Tells r m (record { wanted = sought; at_first = at_first; made = made; table = table_at f s }) bound loader
       (step.Define task value) →
-      IsLoading f r m sought at_first (effect f s seat (Define task)) seat loader
+      IsLoading f r m sought at_first (effect f s seat (Define task)) seat (made ++ (task, value) ∷ []) loader
   loading_after s seat loader made bound task value section passes known told =
       let next = told.4 (table_at f (effect f s seat (Define task)))
       (table_defines f equal r laws s seat task value known told.1) in
@@ -115,7 +115,7 @@ module _ {M T V P Q R F E O G W N : Type 0} (f : Facts T V P Q R F) (equal : Sam
         section = want_grows s.history _ (mark s.seats seat).section (Load sought) section;
         passes = passes;
         ready = told.0;
-        goes_on = record { made = made ++ (task, value) ∷ []; on = next.0 };
+        on = next.0;
       }
 
   -- the condition of a define that a loader tells
@@ -137,46 +137,54 @@ module _ {M T V P Q R F E O G W N : Type 0} (f : Facts T V P Q R F) (equal : Sam
       f.known s.counts.program task ≡ Some value →
       Tells r m (record { wanted = sought; at_first = at_first; made = made; table = table_at f s }) bound loader
       (step.Define task value) →
-      IsMade f r m sought at_first old new k loader (Defined told)
+      IsMade f r m sought at_first old new k made loader (Defined told)
   is_defined old s new k seat loader made bound told task value same here copied entered section passes known tells =
       let at_seat : IsStep f s (record { seat = k; kept = Define task }) new =
       subst (λ (j : ℕ). IsStep f s (record { seat = j; kept = Define task }) new) here entered in
-      let goes : IsLoading f r m sought at_first (effect f s k (Define task)) k loader =
+      let more : List (T × V) = made ++ (task, value) ∷ [] in
+      let goes : IsLoading f r m sought at_first (effect f s k (Define task)) k more loader =
       loading_after s k loader made bound task value section passes known tells in
-      let made_here : IsMade f r m sought at_first s new k loader (Defined task) = (
+      let made_here : IsMade f r m sought at_first s new k made loader (Defined task) = (
         at_seat,
-        subst (λ (x : State M T V P Q R F). IsLoading f r m sought at_first x k loader) (sym at_seat.is) goes,
+        (
+          value,
+          (
+            known,
+            subst (λ (x : State M T V P Q R F). IsLoading f r m sought at_first x k more loader) (sym at_seat.is) goes,
+          ),
+        ),
       ) in
-      let made_told : IsMade f r m sought at_first s new k loader (Defined told) =
-      subst (λ (t : T). IsMade f r m sought at_first s new k loader (Defined t)) (sym copied) made_here in
-      subst (λ (o : State M T V P Q R F). IsMade f r m sought at_first o new k loader (Defined told)) same made_told
+      let made_told : IsMade f r m sought at_first s new k made loader (Defined told) =
+      subst (λ (t : T). IsMade f r m sought at_first s new k made loader (Defined t)) (sym copied) made_here in
+      subst (λ (o : State M T V P Q R F). IsMade f r m sought at_first o new k made loader (Defined told)) same
+      made_told
 
   -- a load that is done
   pub is_loaded : (old s : State M T V P Q R F) (k : ℕ) (loader later : Progress T G W N) (made : List (T × V))
       (bound : ℕ) → (of : IsOfTheory f s.counts.program r) → s ≡ old →
       Tells r m (record { wanted = sought; at_first = at_first; made = made; table = table_at f s }) bound loader
-      step.Done → IsMade f r m sought at_first old s k later Loaded
+      step.Done → IsMade f r m sought at_first old s k made later Loaded
   is_loaded old s k loader later made bound of same tells =
-      let here : IsMade f r m sought at_first s s k later Loaded = (
+      let here : IsMade f r m sought at_first s s k made later Loaded = (
         refl,
-        record { made = made; order = tells.3 },
+        tells.3,
         (tells.0, (of.known_of sought ∙ tells.1, tells.2)),
       ) in
-      subst (λ (o : State M T V P Q R F). IsMade f r m sought at_first o s k later Loaded) same here
+      subst (λ (o : State M T V P Q R F). IsMade f r m sought at_first o s k made later Loaded) same here
 
   -- a load that failed
   pub has_failed : (old s : State M T V P Q R F) (k : ℕ) (loader later : Progress T G W N) (made : List (T × V))
       (bound : ℕ) (failure : Failure T E O) → (of : IsOfTheory f s.counts.program r) → s ≡ old →
       Tells r m (record { wanted = sought; at_first = at_first; made = made; table = table_at f s }) bound loader
-      (step.Failed failure) → IsMade f r m sought at_first old s k later (Failed failure)
+      (step.Failed failure) → IsMade f r m sought at_first old s k made later (Failed failure)
   has_failed old s k loader later made bound failure of same tells =
-      let here : IsMade f r m sought at_first s s k later (Failed failure) = (
+      let here : IsMade f r m sought at_first s s k made later (Failed failure) = (
         refl,
-        record { made = made; order = tells.2 },
+        tells.2,
         of.known_of sought ∙ tells.0,
         tells.1,
       ) in
-      subst (λ (o : State M T V P Q R F). IsMade f r m sought at_first o s k later (Failed failure)) same here
+      subst (λ (o : State M T V P Q R F). IsMade f r m sought at_first o s k made later (Failed failure)) same here
 
 -- the theory of a state is that of the same state
 pub theory_at : {M T V P Q R F E O : Type 0} (f : Facts T V P Q R F) (r : Rules T V E O) (old s : State M T V P Q R F) →

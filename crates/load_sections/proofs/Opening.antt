@@ -109,14 +109,11 @@ module _ {M T V P Q R F E O G W N : Type 0} (f : Facts T V P Q R F) (equal : Sam
   -- a loader of the task begins on an open section of it
   pub open_is_loading : (seats : ℕ) (s : State M T V P Q R F) (k : ℕ) (sought : T) → IsAfter f seats s →
       IsOfTheory f s.counts.program r → Contains (f.tasks s.counts.program) sought → IsOpenFor s k sought →
-      IsLoading f r m sought (table_at f s) s k (begun sought)
+      IsLoading f r m sought (table_at f s) s k [] (begun sought)
   open_is_loading seats s k sought after of task opened = record {
     section = opened.section;
     passes = opened.passes;
     ready = tt;
-    goes_on = record {
-      made = [];
-      on = begins r m laws (nothing_done sought (table_at f s)) sought (table_at f s) (of.tasks sought task)
-          (table_is_part f equal r s.counts.program s.table of (table_of_system f equal seats s after).0);
-    };
+    on = begins r m laws (nothing_done sought (table_at f s)) sought (table_at f s) (of.tasks sought task)
+        (table_is_part f equal r s.counts.program s.table of (table_of_system f equal seats s after).0);
   }

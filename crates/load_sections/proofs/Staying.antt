@@ -6,8 +6,7 @@ use Rattle.std.proofs.lemmas.Bool.{not-false, and_parts, or_parts, true≢false}
 use Rattle.std.proofs.lemmas.Bool.Decides.{nat_tests}
 use Rattle.std.proofs.Common.{arith}
 use Rattle.by_need.specs.Rounds.{Rules}
-use Rattle.by_need_loader.specs.Ends.{GoesOn}
-use Rattle.by_need_loader.specs.Progress.{Progress}
+use Rattle.by_need_loader.specs.Progress.{Progress, IsOn}
 use Rattle.by_need_loader.specs.Runs.{Runs}
 use Rattle.share_lock.specs.declared.seat.Row.{Row}
 use Rattle.share_lock.specs.Rows.{holds_shares, another_exclusive, busy_exclusive}
@@ -104,10 +103,10 @@ module _ {M T V P Q R F : Type 0} (f : Facts T V P Q R F) (s : State M T V P Q R
 module _ {M T V P Q R F E O G W N : Type 0} (f : Facts T V P Q R F) (r : Rules T V E O) (m : Runs T V E O G W N)
     (sought : T) (at_first : T → Option V) where
   -- a load section stays, whatever step another seat makes
-  pub loading_stays : (old new : State M T V P Q R F) (entry : Entry M T V P Q R F) (k : ℕ)
+  pub loading_stays : (old new : State M T V P Q R F) (entry : Entry M T V P Q R F) (k : ℕ) (made : List (T × V))
       (loader : Progress T G W N) → IsStep f old entry new → k ≢ entry.seat →
-      IsLoading f r m sought at_first old k loader → IsLoading f r m sought at_first new k loader
-  loading_stays old new entry k loader step other loading =
+      IsLoading f r m sought at_first old k made loader → IsLoading f r m sought at_first new k made loader
+  loading_stays old new entry k made loader step other loading =
       let both : (is_owner old.seats k ≡ true) × (runs_at old.seats k ≡ true) =
       and_parts (is_owner old.seats k) (runs_at old.seats k)
       (not-false _ (guard_false _ _ _ loading.passes).0) in
@@ -118,12 +117,16 @@ module _ {M T V P Q R F E O G W N : Type 0} (f : Facts T V P Q R F) (r : Rules T
       let runs : runs_at after k ≡ true = ap (λ (x : Marks). is_some x.running) marks ∙ both.1 in
       let table : table_after f old.counts.program old.table entry.kept ≡ old.table =
       table_stays f old entry.seat k other both.0 entry.kept step.passes in
-      subst (λ (s : State M T V P Q R F). IsLoading f r m sought at_first s k loader) (sym step.is) (record {
+      subst (λ (s : State M T V P Q R F). IsLoading f r m sought at_first s k made loader) (sym step.is) (record {
         section = ap (λ (x : Marks). want_at (old.history
             ++ (record { seat = entry.seat; kept = entry.kept }) ∷ []) x.section) marks
             ∙ want_grows old.history _ (mark old.seats k).section (Load-Want sought) loading.section;
         passes = ap (λ b. NotLoading when not b else None) (ap (λ b. b && runs_at after k) owner ∙ runs);
         ready = loading.ready;
-        goes_on = subst (λ (t : List (T × V)). GoesOn r m sought at_first (λ task. lookup f task t) loader) (sym table)
-            loading.goes_on;
+        on = subst (λ (t : List (T × V)). IsOn r m (record {
+          wanted = sought;
+          at_first = at_first;
+          made = made;
+          table = λ task. lookup f task t;
+        }) loader) (sym table) loading.on;
       })

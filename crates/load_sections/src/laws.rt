@@ -1,5 +1,5 @@
 //! How a load section opens, and what other seats leave of it.
-ghost use Rattle.std.specs.Prelude.{◌≢◌, ℕ, Option, Contains};
+ghost use Rattle.std.specs.Prelude.{◌≢◌, ℕ, List, [], Option, Contains};
 ghost use Rattle.by_need_loader.specs.Progress.{Progress, begun};
 ghost use Rattle.system_events.specs.declared.event.Kept.{Kept};
 ghost use Rattle.system_events.specs.declared.event.Want.{Want};
@@ -17,9 +17,10 @@ pub fn load_sections_stay<Y: Program, M: Matter<Task = Y::Task, Value = Y::Value
     ensures { (theory : Y) (sought : Y.Task) (at_first : Y.Task → Option Y.Value)
         (old new : State M Y.Task Y.Value M.Program M.Request M.Reply M.Fault)
         (entry : Entry M Y.Task Y.Value M.Program M.Request M.Reply M.Fault) (k : ℕ)
-        (loader : Progress Y.Task Y.Running Y.Waiting Y.Key) → IsStep M.facts old entry new → k ≢ entry.seat →
-        IsLoading M.facts (Y.rules theory) (Y.runs theory) sought at_first old k loader →
-        IsLoading M.facts (Y.rules theory) (Y.runs theory) sought at_first new k loader }
+        (made : List (Y.Task × Y.Value)) (loader : Progress Y.Task Y.Running Y.Waiting Y.Key) →
+        IsStep M.facts old entry new → k ≢ entry.seat →
+        IsLoading M.facts (Y.rules theory) (Y.runs theory) sought at_first old k made loader →
+        IsLoading M.facts (Y.rules theory) (Y.runs theory) sought at_first new k made loader }
 {}
 
 /// A Take of a load opens a section of its task: its seat is exclusive for it.
@@ -34,5 +35,5 @@ pub fn open_sections_are_loading<Y: Program, M: Matter<Task = Y::Task, Value = Y
     ensures { (theory : Y) (seats : ℕ) (s : State M Y.Task Y.Value M.Program M.Request M.Reply M.Fault) (k : ℕ)
         (sought : Y.Task) → IsAfter M.facts seats s → IsOfTheory M.facts s.counts.program (Y.rules theory) →
         Contains (M.facts.tasks s.counts.program) sought → IsOpenFor s k sought →
-        IsLoading M.facts (Y.rules theory) (Y.runs theory) sought (table_at M.facts s) s k (begun sought) }
+        IsLoading M.facts (Y.rules theory) (Y.runs theory) sought (table_at M.facts s) s k [] (begun sought) }
 {}

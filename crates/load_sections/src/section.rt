@@ -1,5 +1,5 @@
 //! The section.
-ghost use Rattle.std.specs.Prelude.{◌≡◌, ◌<◌, ℕ, length, Option, Some, None, true, IfOk};
+ghost use Rattle.std.specs.Prelude.{◌≡◌, ◌<◌, ℕ, length, List, Option, Some, None, true, IfOk};
 ghost use Rattle.by_need_loader.specs.Progress.{begun};
 ghost use Rattle.system_seats.specs.Guards.{define_guard};
 ghost use Rattle.system_events.specs.declared.event.Kept.{Kept};
@@ -53,15 +53,16 @@ impl<Y: Program> LoadSection<Y> {
     ) -> Result<Made<Y::Task, Y::Error, Y::Other>, AllocError>
         requires seat { self.old.seat < length system.old.state.seats.lock.rows }
         requires theory { IsOfTheory M.facts system.old.state.counts.program (Y.rules theory.now) }
-        requires loading { (sought : Y.Task) × (at_first : Y.Task → Option Y.Value)
+        requires loading { (sought : Y.Task) × (at_first : Y.Task → Option Y.Value) × (done : List (Y.Task × Y.Value))
             × IsLoading M.facts (Y.rules theory.now) (Y.runs theory.now) sought at_first system.old.state
-            self.old.seat self.old.loader }
+            self.old.seat done self.old.loader }
         ensures seat { self.new.seat ≡ self.old.seat }
-        ensures made { IfOk result (λ made. (sought : Y.Task) (at_first : Y.Task → Option Y.Value) →
+        ensures made { IfOk result (λ made. (sought : Y.Task) (at_first : Y.Task → Option Y.Value)
+            (done : List (Y.Task × Y.Value)) →
             IsLoading M.facts (Y.rules theory.now) (Y.runs theory.now) sought at_first system.old.state
-            self.old.seat self.old.loader →
+            self.old.seat done self.old.loader →
             IsMade M.facts (Y.rules theory.now) (Y.runs theory.now) sought at_first system.old.state
-            system.new.state self.old.seat self.new.loader made) }
+            system.new.state self.old.seat done self.new.loader made) }
     {
         'looks: loop {
             match self.loader.step(theory)? {

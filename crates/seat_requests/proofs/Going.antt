@@ -1,16 +1,18 @@
 -- From one step of a request to the next.
-use Rattle.std.proofs.Common.{◌≡◌, ℕ, List, [], ◌∷◌, ◌++◌, Option, Some, None, refl, sym, ap, ◌∙◌, subst}
+use Rattle.std.proofs.Common.{◌≡◌, ℕ, List, [], Option, Some, None, true, false, refl, sym, ap, ◌∙◌, subst}
+use Rattle.std.specs.Prelude.{if◌then◌else◌}
 use Rattle.by_need.specs.Asking.{Asking, Gives, Ask}
 use Rattle.system_events.specs.declared.event.Act.{Act}
 use Rattle.system_events.specs.declared.event.Applied.{Applied}
-use Rattle.system_events.specs.declared.event.Applied.TheVariants.{Refused}
+use Rattle.system_events.specs.declared.event.Applied.TheVariants.{Done, Refused}
 use Rattle.system_events.specs.declared.event.Cause.{Cause}
 use Rattle.system_events.specs.declared.event.Event.{Event}
 use Rattle.system_seats.specs.declared.guard.Guard.{Guard}
 use Rattle.system_events.specs.declared.event.Want.TheVariants.{Unload}
 use Rattle.system_events.specs.Facts.{Facts, SameIsEqual}
 use Rattle.system_events.specs.State.{State}
-use Rattle.system_events.specs.Steps.{IsCause}
+use Rattle.system_events.specs.Guards.{guard_of}
+use Rattle.system_events.specs.Steps.{kept_of}
 use Rattle.system_events.specs.Legal.{IsAfter}
 use Rattle.request_actor.specs.Talks.{Talks, AreOf}
 use Rattle.request_actor.specs.Order.{Goes, GoesOn, Runs, AfterCheck, AfterRelease, AfterLook, AfterLoad, after_reload}
@@ -24,9 +26,10 @@ use Rattle.request_actor.specs.declared.op.Op.TheVariants as op
 use Rattle.request_actor.specs.declared.op.Answered.{Answered}
 use Rattle.request_actor.specs.declared.op.Answered.TheVariants as answer
 use Rattle.request_laws.specs.Standing.{IsServed}
-use Rattle.served_requests.specs.Serving.{IsAnswer}
 use Rattle.served_requests.proofs.Serving.{answered_stays}
-use Rattle.seat_requests.specs.Standing.{IsAskedAt, Stands, IsStanding, MayFollow, IsReady, IsCauseOf}
+use Rattle.seat_requests.specs.declared.entering.Entered.TheVariants.{Waits, Full}
+use Rattle.seat_requests.specs.Trying.{verdict, is_limit, IsRefused, IsLimited}
+use Rattle.seat_requests.specs.Standing.{IsAskedAt, Stands, IsStanding, MayFollow, IsReady, IsCauseOf, IsEntered}
 
 module _ {M T V P Q R F G W E : Type 0} (f : Facts T V P Q R F) (talks : Talks T V P Q R E G W)
     (s : State M T V P Q R F) (k : ℕ) where
@@ -189,10 +192,52 @@ pub goes_on_program : {M T V P Q R F G W E : Type 0} (talks : Talks T V P Q R E 
 goes_on_program {P} talks p q old answered asked new same goes =
     subst (λ (x : P). Goes talks x old answered asked new) same goes
 
--- an event that is refused is handed back
-pub again_is : {M T V P Q R F : Type 0} (result : Applied M T V P Q R F) (first second : Guard)
-    (event : Event M T V P Q R F) (seat : ℕ) (act : Act M T V P Q R F) → result ≡ Refused first event →
-    result ≡ Refused second (record { seat = seat; act = act }) → event.act ≡ act
-again_is {M} {T} {V} {P} {Q} {R} {F} result first second event seat act one other =
-    let same : event ≡ record { seat = seat; act = act } = cc (one, other) in
-    ap (λ (e : Event M T V P Q R F). e.act) same
+-- an act that was refused: by this guard, the first that is true, and nothing changed
+pub record RefusedBy {M T V P Q R F : Type 0} (f : Facts T V P Q R F) (old new : State M T V P Q R F) (seat : ℕ)
+    (act again : Act M T V P Q R F) (guard : Guard) : Type 0 where
+  pub first : guard_of f old seat (kept_of act) ≡ Some guard
+  pub same : new ≡ old
+  pub back : again ≡ act
+
+module _ {M T V P Q R F : Type 0} (f : Facts T V P Q R F) where
+  -- an event that is refused is handed back, and its guard is the first that is true
+  pub refused_by : (old new : State M T V P Q R F) (seat : ℕ) (act : Act M T V P Q R F)
+      (result : Applied M T V P Q R F) (guard : Guard) (event : Event M T V P Q R F) → result ≡ Refused guard event →
+      (guard_of f old seat (kept_of act) ≡ None → result ≡ Done) →
+      ((other : Guard) → guard_of f old seat (kept_of act) ≡ Some other →
+      (result ≡ Refused other (record { seat = seat; act = act })) × (new ≡ old)) →
+      RefusedBy f old new seat act event.act guard
+  refused_by old new seat act result guard event is done refused = by (guard_of f old seat (kept_of act)) refl
+    where
+      by : (o : Option Guard) → guard_of f old seat (kept_of act) ≡ o → RefusedBy f old new seat act event.act guard
+      by None none = absurd (cc (done none, is))
+      by (Some other) some =
+          let r = refused other some in
+          let same_guard : guard ≡ other = cc (is, r.0) in
+          let same_event : event ≡ record { seat = seat; act = act } = cc (is, r.0) in
+          record {
+            first = some ∙ ap (λ (g : Guard). Some g) (sym same_guard);
+            same = r.1;
+            back = ap (λ (e : Event M T V P Q R F). e.act) same_event;
+          }
+
+  -- what comes of an act that is refused by a guard that is no limit
+  pub is_refused : (s old new : State M T V P Q R F) (seat : ℕ) (act again : Act M T V P Q R F) (guard : Guard) →
+      s ≡ old → RefusedBy f s new seat act again guard → is_limit guard ≡ false →
+      IsEntered f old new seat (kept_of act) act (Waits again)
+  is_refused s old new seat act again guard is by no_limit = (
+    by.same ∙ is,
+    by.back,
+    ap (λ (x : State M T V P Q R F). verdict (guard_of f x seat (kept_of act))) (sym is) ∙ ap verdict by.first
+        ∙ ap (λ b. if b then IsLimited else IsRefused) no_limit,
+  )
+
+  -- what comes of an act that is refused by a limit
+  pub is_limited : (s old new : State M T V P Q R F) (seat : ℕ) (act again : Act M T V P Q R F) (guard : Guard) →
+      s ≡ old → RefusedBy f s new seat act again guard → is_limit guard ≡ true →
+      IsEntered f old new seat (kept_of act) act Full
+  is_limited s old new seat act again guard is by limit = (
+    by.same ∙ is,
+    ap (λ (x : State M T V P Q R F). verdict (guard_of f x seat (kept_of act))) (sym is) ∙ ap verdict by.first
+        ∙ ap (λ b. if b then IsLimited else IsRefused) limit,
+  )

@@ -1,5 +1,5 @@
 -- What follows of a standing request, and what leaves it.
-use Rattle.std.proofs.Common.{◌≡◌, ◌≢◌, ℕ, List, Some, None, refl, sym, ap, ◌∙◌, subst}
+use Rattle.std.proofs.Common.{◌≡◌, ℕ, List, Some, sym, subst}
 use Rattle.system_events.specs.declared.event.Cause.{Cause}
 use Rattle.system_events.specs.declared.event.Entry.{Entry}
 use Rattle.system_events.specs.Facts.{Facts, SameIsEqual}
@@ -16,7 +16,7 @@ use Rattle.request_actor.specs.declared.op.Op.{Op}
 use Rattle.request_actor.specs.declared.op.Op.TheVariants as op
 use Rattle.request_laws.specs.Standing.{IsServed, GoesOn, LeavesRequest}
 use Rattle.request_laws.proofs.Standing.{served_stays, request_goes_on, end_is_allowed}
-use Rattle.seat_requests.specs.Standing.{IsAskedAt, Stands, IsStanding}
+use Rattle.seat_requests.specs.Standing.{IsStanding}
 
 module _ {M T V P Q R F G W E : Type 0} (f : Facts T V P Q R F) (talks : Talks T V P Q R E G W)
     (s : State M T V P Q R F) (k : ℕ) where

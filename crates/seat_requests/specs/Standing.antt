@@ -5,6 +5,7 @@ use Rattle.system_events.specs.declared.event.Cause.{Cause}
 use Rattle.system_events.specs.declared.event.Want.TheVariants.{Unload}
 use Rattle.system_events.specs.declared.event.Kept.{Kept}
 use Rattle.system_events.specs.Facts.{Facts}
+use Rattle.system_events.specs.Guards.{guard_of}
 use Rattle.system_events.specs.State.{State}
 use Rattle.system_events.specs.Steps.{IsCause}
 use Rattle.system_events.specs.Legal.{IsStep}
@@ -20,17 +21,19 @@ use Rattle.request_actor.specs.declared.op.Answered.{Answered}
 use Rattle.request_actor.specs.declared.op.Answered.TheVariants as answer
 use Rattle.request_laws.specs.Standing.{IsServed}
 use Rattle.served_requests.specs.Serving.{IsAnswer}
+use Rattle.seat_requests.specs.Trying.{verdict, IsRefused, IsLimited}
 use Rattle.seat_requests.specs.declared.entering.Entered.{Entered}
 use Rattle.seat_requests.specs.declared.entering.Entered.TheVariants.{Done, Waits, Full}
 
 module _ {M T V P Q R F : Type 0} (f : Facts T V P Q R F) where
-  -- What comes of an act that is tried. Done: its step. Waits or Full: a guard refused it, and here it is; nothing
-  -- changed.
+  -- What comes of an act that is tried. Done: its step. Waits: a guard refused it, and here it is. Full: that guard
+  -- tells a limit. In both cases nothing changed.
   abbrev pub IsEntered : State M T V P Q R F → State M T V P Q R F → ℕ → Kept M T V P Q R F →
       Act M T V P Q R F → Entered M T V P Q R F → Type 0
   IsEntered old new seat kept act Done = IsStep f old (record { seat = seat; kept = kept }) new
-  IsEntered old new seat kept act (Waits again) = (new ≡ old) × (again ≡ act)
-  IsEntered old new seat kept act Full = new ≡ old
+  IsEntered old new seat kept act (Waits again) =
+      (new ≡ old) × (again ≡ act) × (verdict (guard_of f old seat kept) ≡ IsRefused)
+  IsEntered old new seat kept act Full = (new ≡ old) × (verdict (guard_of f old seat kept) ≡ IsLimited)
 
 module _ {M T V P Q R F W : Type 0} where
   -- the operation whose answer is awaited

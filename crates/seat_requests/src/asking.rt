@@ -1,6 +1,6 @@
 //! Asking a request for its next operation.
 ghost use Rattle.std.specs.Prelude.{IfOk};
-ghost use Rattle.request_actor.specs.Order.{Fits};
+ghost use Rattle.request_actor.specs.Order.{Fits, Goes};
 ghost use Rattle.seat_requests.specs.Standing.{IsReady, IsStanding};
 
 use request_actor::{Actor, Answered, Op, Requests};
@@ -18,7 +18,9 @@ pub fn ask_next<M: Requests>(
 ) -> Result<Op<M>, AllocError>
     requires fits { Fits actor.old answered }
     requires ready { IsReady M.facts M.talks system.now.state _seat actor.old answered }
-    ensures { IfOk result (λ asked. IsStanding M.facts M.talks system.now.state _seat actor.new asked) }
+    ensures order { IfOk result
+        (λ asked. Goes M.talks system.now.state.counts.program actor.old answered asked actor.new) }
+    ensures stands { IfOk result (λ asked. IsStanding M.facts M.talks system.now.state _seat actor.new asked) }
 {
     system.tells_legal();
     actor.next(system.program(), answered)

@@ -1,6 +1,7 @@
 //! Trying an act of a seat.
 ghost use Rattle.std.specs.Prelude.{◌≡◌, ◌<◌, length, IfOk};
 ghost use Rattle.system_events.specs.Steps.{Condition, IsKnown, kept_of};
+ghost use Rattle.seat_requests.specs.Trying.{is_limit};
 ghost use Rattle.seat_requests.specs.Standing.{IsEntered};
 
 use std::alloc::AllocError;
@@ -20,7 +21,9 @@ pub enum Entered<M: Matter> {
 }
 
 // Whether a guard tells a limit of requests, replies, generations or kept bytes.
-fn is_limit(guard: Guard) -> bool {
+fn is_limit(guard: Guard) -> bool
+    ensures { result ≡ is_limit guard }
+{
     matches!(
         &guard,
         Guard::RequestsFull(_)

@@ -2,8 +2,8 @@
 //!
 //! | Call or law | Says |
 //! |---|---|
-//! | [`enter`] | an act of the seat is its step, or a guard refuses it and nothing changes |
-//! | [`ask_next`] | a request that is ready for an answer stands at what it asks for next |
+//! | [`enter`] | an act of the seat is its step, or a guard, which may be a limit, refuses it and nothing changes |
+//! | [`ask_next`] | a request that is ready for an answer stands at what it asks for next, which is its order's |
 //! | [`standing_requests_are_allowed`] | where a request stands at a Begin, a load, an End or a Refuse, it may come |
 //! | [`standing_requests_stay`] | a request stands still, whatever step is made that doesn't end it |
 //!

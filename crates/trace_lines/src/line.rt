@@ -16,6 +16,14 @@ fn push_number(alloc: Global, line: &mut Vec<u8>, count: u32) -> Result<(), Allo
     push_decimal(alloc, line, i64::from(count))
 }
 
+// Adds a name behind a text.
+fn push_name(line: &mut Vec<u8>, before: &[u8], name: &[u8]) -> Result<(), AllocError>
+    ensures { OnOk result (line.new.items ≡ line.old.items ++ (before.now ++ name.now)) }
+{
+    line.extend_from_slice(before)?;
+    line.extend_from_slice(name)
+}
+
 // Adds a name between two texts.
 fn push_named(
     line: &mut Vec<u8>,
@@ -85,9 +93,9 @@ fn push_step(alloc: Global, line: &mut Vec<u8>, step: Step<'_>) -> Result<(), Al
         Step::Reload(generation) => push_numbered(alloc, line, b"reload ", generation),
         Step::LookFound(task) => push_named(line, b"look ", task, b" found"),
         Step::LookMissing(task) => push_named(line, b"look ", task, b" missing"),
-        Step::SeekLoad(task) => push_named(line, b"seek load ", task, b""),
-        Step::TakeLoad(task) => push_named(line, b"take load ", task, b""),
-        Step::Define(task) => push_named(line, b"define ", task, b""),
+        Step::SeekLoad(task) => push_name(line, b"seek load ", task),
+        Step::TakeLoad(task) => push_name(line, b"take load ", task),
+        Step::Define(task) => push_name(line, b"define ", task),
         Step::End(status, generation, body) => push_end(alloc, line, status, generation, body),
         Step::Refuse(status, body) => push_refuse(alloc, line, status, body),
         Step::Idle => line.extend_from_slice(b"idle"),
