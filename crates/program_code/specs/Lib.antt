@@ -1,0 +1,5 @@
+pub mod Members
+pub mod Groups
+pub mod Seen
+pub mod Definitions
+pub mod Codes
