@@ -1,1 +1,2 @@
 mod Splitting
+pub mod Grammar

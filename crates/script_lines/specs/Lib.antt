@@ -1,3 +1,4 @@
 pub mod Content
 pub mod Lines
 pub mod Reading
+pub mod Grammar

@@ -21,13 +21,16 @@
 //!
 //! LF ends each line but the last. One space stands between words. Seats are written as 1 to 64. Empty lines, and those
 //! that begin with `#`, count for nothing. [`Script`] reads; what a line tells is `line_told` in `specs/Lines.antt`,
-//! and what comes next in a script is `next_turn` in `specs/Reading.antt`.
+//! and what comes next in a script is `next_turn` in `specs/Reading.antt`. What holds of every instruction that is told
+//! is the law [`told_lines_are_of_the_grammar`].
 #![tactic(auto)]
 
 mod content;
 mod instruction;
+mod laws;
 mod script;
 mod words;
 
 pub use instruction::{Instruction, LineFault, LineKind, Told};
+pub use laws::told_lines_are_of_the_grammar;
 pub use script::Script;
