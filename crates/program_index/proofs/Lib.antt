@@ -1,4 +1,7 @@
-pub mod OutcomeLaws
 pub mod ProgramLaws
 pub mod OneLaws
-pub mod StampLaws
+pub mod LookupLaws
+pub mod FileLaws
+pub mod ControllerLaws
+pub mod EmptyLaws
+pub mod LoadingLaws

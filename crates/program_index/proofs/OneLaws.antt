@@ -1,15 +1,14 @@
 -- In a program no two files that are used spell one constant or have one path, so that each constant has one owner.
-use Rattle.std.proofs.Common.{◌≡◌, ◌≢◌, ◌⊎◌, ℕ, zero, suc, List, [], ◌∷◌, ◌++◌, map, Option, Some, None, slice_get}
-use Rattle.std.proofs.Common.{length}
+use Rattle.std.proofs.Common.{◌≡◌, ◌≢◌, ℕ, zero, suc, List, [], ◌∷◌, map, Option, Some, None, slice_get}
 use Rattle.std.proofs.Common.{inl, inr, refl, sym, ap, ◌∙◌, subst}
 use Rattle.std.specs.Option.{option_map}
 use Rattle.std.proofs.lemmas.Option.{none-some, same_Some, slice_get-map}
-use Rattle.outside.specs.Order.{IsBefore, Rising}
+use Rattle.outside.specs.Order.{IsBefore}
 use Rattle.outside.specs.declared.files.FileEntry.{FileEntry}
 use Rattle.outside.proofs.TableLaws.{not_before_itself}
 use Rattle.tree_scan_sites.specs.Listed.{Lists}
 use Rattle.tree_scan_sites.specs.Sites.{IsFileOf}
-use Rattle.tree_scan_sites.proofs.MemberLaws.{In, Each, of_each, Rises, rises_from_AllPairs}
+use Rattle.tree_scan_sites.proofs.MemberLaws.{In, of_each, Rises, rises_from_AllPairs}
 use Rattle.tree_scan_sites.proofs.SiteLaws.{one_file_of}
 use Rattle.program_places.specs.Paths.{Path}
 use Rattle.program_files.specs.Files.{UsedFile}
@@ -18,9 +17,10 @@ use Rattle.program_files.specs.Owners.{OneFile}
 use Rattle.program_used.specs.Texts.{reading_in}
 use Rattle.program_used.specs.Rows.{AreUsed, all_used}
 use Rattle.program_used.specs.declared.used.UsedText.{UsedText}
-use Rattle.program_index.specs.declared.content.Content.{Content}
-use Rattle.program_index.specs.Outcomes.{listed_one, listed}
-use Rattle.program_index.specs.Program.{IsProgram, files_of, used_files}
+use Rattle.program_outcomes.specs.Outcomes.{listed}
+use Rattle.program_tables.specs.Resolved.{OneNumber}
+use Rattle.program_index.specs.Content.{Content, files_of, used_files}
+use Rattle.program_index.specs.Program.{IsProgram}
 
 -- ---- where a file stands
 
@@ -30,7 +30,7 @@ in_at (y ∷ ys) zero x e = inl (same_Some y x e)
 in_at (y ∷ ys) (suc n) x e = inr (in_at ys n x e)
 
 -- a text stands at one place of a list that rises
-once_at : (xs : List (List ℕ)) (n m : ℕ) (x : List ℕ) → Rises IsBefore xs → slice_get xs n ≡ Some x →
+pub once_at : (xs : List (List ℕ)) (n m : ℕ) (x : List ℕ) → Rises IsBefore xs → slice_get xs n ≡ Some x →
     slice_get xs m ≡ Some x → n ≡ m
 once_at [] n m x up e f = absurd (none-some x e)
 once_at (y ∷ ys) zero zero x up e f = refl
@@ -43,7 +43,7 @@ once_at (y ∷ ys) (suc n) zero x up e f =
 once_at (y ∷ ys) (suc n) (suc m) x up e f = ap suc (once_at ys n m x up.1 e f)
 
 -- a file that is listed stands at a number
-listed_at : (us : List (Option UsedFile)) (f : UsedFile) → Among f (listed us) →
+pub listed_at : (us : List (Option UsedFile)) (f : UsedFile) → Among f (listed us) →
     (n : ℕ) × (slice_get us n ≡ Some (Some f))
 listed_at [] f h = absurd h
 listed_at (None ∷ us) f h = let i = listed_at us f h in (suc i.0, i.1)
@@ -74,7 +74,8 @@ used_here entry fs (Some u) rs f e =
       constant = sym (ap (λ x. x.constant) same);
     }
 
-used_at_number : (fs : List FileEntry) (rs : List (Option UsedText)) (n : ℕ) (f : UsedFile) →
+-- what is used at a number is the file there, with its text
+pub used_at_number : (fs : List FileEntry) (rs : List (Option UsedText)) (n : ℕ) (f : UsedFile) →
     slice_get (all_used fs rs) n ≡ Some (Some f) → UsedAt fs rs n f
 used_at_number [] rs n f e = absurd (none-some (Some f) e)
 used_at_number (entry ∷ fs) [] n f e = absurd (none-some (Some f) e)
@@ -98,8 +99,7 @@ text_constant (c ∷ cs) (r ∷ rs) zero u h e =
     ap (λ x. Some x) (text_here c u cs rs (subst (λ x. AreUsed (c ∷ cs) (x ∷ rs)) (same_Some r (Some u) e) h))
 text_constant (c ∷ cs) (r ∷ rs) (suc n) u h e = text_constant cs rs n u h.1 e
 
-module _ (files : List FileEntry) (p : Content) (is : IsProgram files p)
-    (rising : Rising (map (λ (f : FileEntry). f.path) files)) where
+module _ (files : List FileEntry) (p : Content) (is : IsProgram files p) where
   -- where a file that is used stands, and that it is the file of its constant
   pub record Standing (f : UsedFile) : Type 0 where
     pub number : ℕ
@@ -111,9 +111,9 @@ module _ (files : List FileEntry) (p : Content) (is : IsProgram files p)
   standing : (f : UsedFile) → Among f (used_files p) → Standing f
   standing f h =
       let i = listed_at (files_of p) f h in
-      let u = used_at_number p.snapshot.files p.texts.items i.0 f i.1 in
+      let u = used_at_number p.files p.texts i.0 f i.1 in
       let c = is.are_constants.each i.0 (Some u.text.constant)
-      (text_constant is.constants p.texts.items i.0 u.text is.are_used u.read) in
+      (text_constant is.constants p.texts i.0 u.text is.are_used u.read) in
       let entry : slice_get files i.0 ≡ Some u.entry =
       subst (λ fs. slice_get fs i.0 ≡ Some u.entry) is.same u.stands in
       record {
@@ -144,6 +144,21 @@ module _ (files : List FileEntry) (p : Content) (is : IsProgram files p)
         let s = standing f h in
         let t = standing g k in
         same_at f g s t (once_at (map (λ (x : FileEntry). x.path) files) s.number t.number g.path
-        (rises_from_AllPairs IsBefore (map (λ (x : FileEntry). x.path) files) rising)
+        (rises_from_AllPairs IsBefore (map (λ (x : FileEntry). x.path) files) is.rising)
         (subst (λ x. slice_get (map (λ (y : FileEntry). y.path) files) s.number ≡ Some x) e s.path) t.path);
   }
+
+  number_at : (n : ℕ) (f : UsedFile) → slice_get (files_of p) n ≡ Some (Some f) →
+      slice_get (map (λ (e : FileEntry). e.path) files) n ≡ Some f.path
+  number_at n f h =
+      let u = used_at_number p.files p.texts n f h in
+      let entry : slice_get files n ≡ Some u.entry = subst (λ fs. slice_get fs n ≡ Some u.entry) is.same u.stands in
+      slice_get-map (λ (e : FileEntry). e.path) files n
+      ∙ ap (option_map (λ (e : FileEntry). e.path)) entry ∙ ap (λ x. Some x) (sym u.path)
+
+  -- no two numbers are of files with one path
+  pub one_numbers : OneNumber (files_of p)
+  one_numbers n m f g h k e =
+      once_at (map (λ (x : FileEntry). x.path) files) n m g.path
+      (rises_from_AllPairs IsBefore (map (λ (x : FileEntry). x.path) files) is.rising)
+      (number_at n f h ∙ ap (λ x. Some x) e) (number_at m g k)

@@ -1,17 +1,14 @@
 -- What a program's parts owe each other.
-use Rattle.std.proofs.Common.{◌≡◌, ◌≢◌, ℕ, suc, List, [], ◌∷◌, Option, Some, None, length, refl, sym, ap, subst, ◌∙◌}
+use Rattle.std.proofs.Common.{◌≡◌, ℕ, suc, List, [], ◌∷◌, Option, Some, None, All}
+use Rattle.std.proofs.Common.{get_or, slice_get, length, refl, ap, arith}
+use Rattle.std.proofs.lemmas.Option.{slice_get-get_or}
 use Rattle.outside.specs.declared.files.FileEntry.{FileEntry}
-use Rattle.app_config.specs.declared.config.Config.{Config}
-use Rattle.tree_scan.specs.Sites.{IsFault}
-use Rattle.tree_scan.specs.declared.fault.ScanFault.{ScanFault}
-use Rattle.tree_scan.specs.declared.fault.ScanFault.TheVariants.{BadName, TwoRoots, Memory}
-use Rattle.tree_report.specs.Limits.{IsWithinLimits}
-use Rattle.tree_report.specs.Configurations.{IsConfiguration}
 use Rattle.program_places.specs.Paths.{Path}
-use Rattle.program_used.specs.Rows.{AreUsed}
+use Rattle.tree_scan_sites.specs.declared.spelled.Spelled.{Spelled}
+use Rattle.program_texts.specs.Read.{IsNamed}
+use Rattle.program_used.specs.Constants.{AreConstants}
+use Rattle.program_used.specs.Rows.{AreUsed, all_used}
 use Rattle.program_used.specs.declared.used.UsedText.{UsedText}
-use Rattle.program_index.specs.Faults.{of_scan}
-use Rattle.program_index.specs.Refusals.{IsRefusal}
 
 -- there are as many texts as constants
 pub texts_length : (cs : List (Option Path)) (rs : List (Option UsedText)) → AreUsed cs rs → length rs ≡ length cs
@@ -20,9 +17,17 @@ texts_length [] (r ∷ rs) h = absurd h
 texts_length (c ∷ cs) [] h = absurd h
 texts_length (c ∷ cs) (r ∷ rs) h = ap suc (texts_length cs rs h.1)
 
--- a fault of the scan refuses the application
-pub scan_refused : (files : List FileEntry) (config : Config) (fault : ScanFault) → IsWithinLimits files →
-    IsConfiguration files config → IsFault files config fault → IsRefusal files (of_scan fault)
-scan_refused files config (BadName path) within configured is = (within, (config, configured, is))
-scan_refused files config (TwoRoots path) within configured is = (within, (config, configured, is))
-scan_refused files config Memory within configured is = tt
+-- where none is used or not, there is no file
+pub empty_used : (fs : List FileEntry) (rs : List (Option UsedText)) → length rs ≡ length fs → all_used fs rs ≡ [] →
+    fs ≡ []
+empty_used [] rs e h = refl
+empty_used (f ∷ fs) [] e h = absurd (omega (arith, e))
+empty_used (f ∷ fs) (r ∷ rs) e h = absurd (omega (arith, ap length h))
+
+-- each constant has a name
+pub named_all : (spelled : List Spelled) (size : ℕ) (cs : List (Option Path)) → AreConstants spelled size cs →
+    All IsNamed cs
+named_all spelled size cs h = λ k d lt. at k (get_or cs k d) (slice_get-get_or cs k d lt) where
+  at : (k : ℕ) (o : Option Path) → slice_get cs k ≡ Some o → IsNamed o
+  at k None e = tt
+  at k (Some c) e = (h.each k (Some c) e).0

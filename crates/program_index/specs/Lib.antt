@@ -1,5 +1,5 @@
-pub mod Faults
-pub mod Refusals
-pub mod Outcomes
+pub mod Content
+pub mod Controllers
 pub mod Program
-pub mod Stamps
+pub mod Tables
+pub mod Lookups
