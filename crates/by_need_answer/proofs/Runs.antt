@@ -36,7 +36,8 @@ module _ {T V E O : Type 0} (r : Rules T V E O) (laws : Lawful r) where
   later_asked u t go v h = or_right (r.same t u) (is_in r t (go v).asked) h
 
   -- behind the value of a known task, which was loaded, the run goes on
-  pub goes_on : (whole left : Computation T V E O) (J K L : T → Option V) (u : T) (k : V → Computation T V E O) (v : V) →
+  pub goes_on : (whole left : Computation T V E O) (J K L : T → Option V) (u : T) (k : V → Computation T V E O)
+      (v : V) →
       GoesOn r whole left J K → left ≡ Ask u k → known r u ≡ Some v → Part L (known r) → Gains r u K L →
       GoesOn r whole (k v) J L
   goes_on whole left J K L u k v on is has part more = record {

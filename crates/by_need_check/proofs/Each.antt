@@ -67,7 +67,8 @@ module _ {T V E O : Type 0} (r : Rules T V E O) (laws : Lawful r) where
   -- one task more is loaded, and is known
   pub after_done : (J K L : T → Option V) (tasks : List T) (t : T) (ts : List T) (defined noted : List T)
       (failed : List (T × Failure T E O)) (ds : List (T × V)) (v : V) → IsAmid r J tasks (t ∷ ts) K defined failed →
-      Load r K t ds L true → Part L (known r) → Gains r t K L → noted ≡ defined ++ defined_tasks ds → known r t ≡ Some v →
+      Load r K t ds L true → Part L (known r) → Gains r t K L → noted ≡ defined ++ defined_tasks ds → known r t
+      ≡ Some v →
       IsAmid r J tasks ts L noted failed
   after_done J K L tasks t ts defined noted failed ds v amid load part more notes is = record {
     part = part;

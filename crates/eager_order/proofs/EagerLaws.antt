@@ -154,7 +154,8 @@ pub in_order : (roots : List Root) (files : List FileEntry) (numbers : List ℕ)
     AreInEagerOrder roots files numbers (map (λ p. p.file) sorted)
 in_order roots files numbers placed sorted rises once are all moved ordered =
     let same : IsPermutation numbers (map (λ p. p.file) sorted) =
-    subst (λ ns. IsPermutation ns (map (λ p. p.file) sorted)) are (IsPermutation-map (λ p. p.file) placed sorted moved) in
+    subst (λ ns. IsPermutation ns (map (λ p. p.file) sorted)) are
+    (IsPermutation-map (λ p. p.file) placed sorted moved) in
     record {
       same = same;
       rising = sorted_rise roots files rises sorted ordered

@@ -1,5 +1,6 @@
--- In which order an application's files are loaded eagerly (Zeitwerk README, "Eager loading"): root after root. That the
--- directories below a root are gone through breadth first, and the entries of each by their bytes, is this project's own.
+-- In which order an application's files are loaded eagerly (Zeitwerk README, "Eager loading"): root after root. That
+-- the directories below a root are gone through breadth first, and the entries of each by their bytes, is this
+-- project's own.
 use Rattle.std.specs.Prelude.{◌≡◌, ℕ, List, length, AllPairs}
 use Rattle.std.specs.List.Sorted.{IsPermutation}
 use Rattle.std.specs.Ordering.{nat_cmp, ordering_then}
@@ -14,7 +15,8 @@ use Rattle.tree_scan.specs.Sites.{path_at}
 use Rattle.eager_order.specs.declared.placed.PlacedFile.{PlacedFile}
 
 -- Of two files below roots the one below the earlier root comes first; below one root, the one below fewer directories;
--- and of those below as many, the one whose name or directory comes first by its bytes, where the two paths first differ.
+-- and of those below as many, the one whose name or directory comes first by its bytes, where the two paths first
+-- differ.
 abbrev pub placed_order : PlacedFile → PlacedFile → Ordering
 placed_order a b = ordering_then (nat_cmp a.root b.root)
     (ordering_then (nat_cmp (length a.segments) (length b.segments)) (path_order a.segments b.segments))

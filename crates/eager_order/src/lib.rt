@@ -13,8 +13,8 @@
 //! each comes before those below it: roots come in their order, each is gone through level by level, and the entries of
 //! a directory come by their bytes.
 //!
-//! A file is told by its number, its place in the snapshot. Each file's root is found and its path is cut once; then the
-//! files are sorted, so that nothing is quadratic.
+//! A file is told by its number, its place in the snapshot. Each file's root is found and its path is cut once; then
+//! the files are sorted, so that nothing is quadratic.
 #![tactic(auto)]
 
 mod order;

@@ -74,7 +74,8 @@ pub fn reply_of(
     request: &Request,
     answered: Answered<Task, Value, RubyError, NoReply>,
 ) -> Result<Reply, AllocError>
-    ensures { IfOk result (λ reply. (app : Application) (run : Computation TaskValue ValueValue ErrorValue NoReplyValue) →
+    ensures { IfOk result (λ reply. (app : Application)
+        (run : Computation TaskValue ValueValue ErrorValue NoReplyValue) →
         ((value : ValueValue) → app.rows.to_s value ≡ printed.to_s value) → Answers (rules_of app) run answered →
         reply ≡ spec.reply_by app request.now (over (known (rules_of app)) run).answer) }
 {

@@ -1,5 +1,6 @@
 -- How the run of an ancestors' task goes on, step by step.
-use Rattle.std.proofs.Common.{◌≡◌, ◌<◌, ◌≤◌, ℕ, suc, true, false, List, [], ◌∷◌, ◌++◌, length, drop, get_or, map, Option}
+use Rattle.std.proofs.Common.{◌≡◌, ◌<◌, ◌≤◌, ℕ, suc, true, false, List, [], ◌∷◌, ◌++◌, length, drop, get_or, map}
+use Rattle.std.proofs.Common.{Option}
 use Rattle.std.proofs.Common.{Some, None, sym, ap, subst, ◌∙◌, arith, ◌+◌}
 use Rattle.std.proofs.Math.Path.{fun_ext}
 use Rattle.std.proofs.Math.Seq.{drop-cons}
@@ -26,7 +27,8 @@ use Rattle.ruby_machine_names.specs.declared.here.Failure.{Failure}
 use Rattle.ruby_machine_names.specs.declared.here.Failure.TheVariants as failure
 use Rattle.ruby_machine_names.proofs.Going.{AsksFor_from, ComesTo_from, EndsAt_from, ends_at}
 use Rattle.ruby_machine_ancestors.specs.Ancestors.{MentionGoes, behind, goes_on}
-use Rattle.ruby_machine_ancestors.specs.Ancestors.{includes_at, joined, judged, mentioned, no_class, no_module, waited, waits}
+use Rattle.ruby_machine_ancestors.specs.Ancestors.{includes_at, joined, judged, mentioned, no_class, no_module}
+use Rattle.ruby_machine_ancestors.specs.Ancestors.{waited, waits}
 use Rattle.ruby_machine_ancestors.specs.Ancestors.{with_members}
 use Rattle.ruby_machine_ancestors.specs.declared.mentions.Role.{Role}
 use Rattle.ruby_machine_ancestors.specs.declared.mentions.Role.TheVariants as role
@@ -87,7 +89,8 @@ module _ (index : Index) (file : List ℕ) where
     asked = names.ancestors index profile (file_alone file) found.path
 
     -- a parent that is a class
-    pub parent_goes : (r : Result MentionStep Failure) (new : ℕ) → role' ≡ role.Parent → is_class_at (index.place found.path) ≡ true →
+    pub parent_goes : (r : Result MentionStep Failure) (new : ℕ) → role' ≡ role.Parent →
+        is_class_at (index.place found.path) ≡ true →
         MentionGoes later' asked old r new → MentionGoes later' (judged index file role' found) old r new
     parent_goes r new is class k =
         subst (λ x. MentionGoes later' (judged index file x found) old r new) (sym is)
@@ -102,7 +105,8 @@ module _ (index : Index) (file : List ℕ) where
         (ends_at (no_class {A = List Path} file) old f k))
 
     -- an included module
-    pub include_goes : (r : Result MentionStep Failure) (new : ℕ) → role' ≡ role.Included → (found.assigned || is_class_at (index.place found.path)) ≡ false →
+    pub include_goes : (r : Result MentionStep Failure) (new : ℕ) → role' ≡ role.Included →
+        (found.assigned || is_class_at (index.place found.path)) ≡ false →
         MentionGoes later' asked old r new → MentionGoes later' (judged index file role' found) old r new
     include_goes r new is module' k =
         subst (λ x. MentionGoes later' (judged index file x found) old r new) (sym is)

@@ -138,6 +138,7 @@ module _ (index : Index) (known : List Entry) (m : Core) (r : Result Control Sto
       then makes_new index profile (frames_of index profile m.left) here path args
       else built_in_call profile here (value.Module path) name args) m.turns (gives_of index known m)
 
+  -- `new` of a class
   pub new_kept : (path : Path) (name : Name) (args : List Value) →
       (bytes_eq name (codes "new") && is_class_at (index.place path)) ≡ true →
       KeptFrom index known (makes_new index profile (frames_of index profile m.left) here path args m.turns
@@ -150,6 +151,7 @@ module _ (index : Index) (known : List Entry) (m : Core) (r : Result Control Sto
       m.turns (gives_of index known m)) (load m + 9) (load m + 9) r new (ap (by_test path name args) is)
       (omega arith) k
 
+  -- a built-in method of a class or module
   pub not_new_kept : (path : Path) (name : Name) (args : List Value) →
       (bytes_eq name (codes "new") && is_class_at (index.place path)) ≡ false →
       KeptFrom index known (built_in_call profile here (value.Module path) name args m.turns (gives_of index known m))

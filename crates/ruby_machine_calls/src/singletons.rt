@@ -36,7 +36,8 @@ fn new_object<P: Lookups>(
     ensures { let i = P.index program.now in
         let k = P.entries program.now in
         KeptFrom i k
-        (new_by i k core.old.left (here_of core.old.here) path args.now (option_map (λ m. method_of k m.now) found.entry)
+        (new_by i k core.old.left (here_of core.old.here) path args.now
+        (option_map (λ m. method_of k m.now) found.entry)
         core.old.turns (gives_of i k core.old)) (load core.old + 9) result core.new }
 {
     let object = Value::Object(path, Pairs::new(alloc));

@@ -12,7 +12,8 @@ use Rattle.ruby_nodes.specs.Entries.{Entry, entry_at}
 use Rattle.ruby_builtin_base.specs.Answers.{wrong_count_text}
 use Rattle.ruby_runs.specs.Doing.{Here, Meaning, ◌>>=◌, error_at, fail, spent, turn}
 use Rattle.ruby_runs.specs.Bodies as bodies
-use Rattle.ruby_runs.specs.Bodies.{Flow, GoesOn, Left, State, Variables, bound, enter, exec, frames_of, in_order, ivar_of, left_by}
+use Rattle.ruby_runs.specs.Bodies.{Flow, GoesOn, Left, State, Variables, bound, enter, exec, frames_of, in_order}
+use Rattle.ruby_runs.specs.Bodies.{ivar_of, left_by}
 use Rattle.ruby_runs.specs.BuiltIns.{made}
 use Rattle.ruby_machine_names.specs.Profile.{profile}
 use Rattle.ruby_machine_names.specs.Steps.{here_of}
