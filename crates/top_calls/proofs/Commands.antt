@@ -1,33 +1,15 @@
 -- Which words the commands have.
-use Rattle.std.proofs.Common.{◌≡◌, ℕ, List, [], ◌∷◌, Option, Some, None, codes, slice_index, refl, sym, ap, ◌∙◌, subst}
+use Rattle.std.proofs.Common.{◌≡◌, ℕ, List, [], ◌∷◌, codes, slice_index, refl, sym, ap, ◌∙◌, subst}
 use Rattle.std.proofs.Common.{arith}
 use Rattle.std.specs.Borrow.{Bor}
-use Rattle.std.specs.Fmt.{decimal}
-use Rattle.top_calls.specs.Words.{IsCommandLine, AreConnections}
+use Rattle.command_words.specs.Words.{IsCommandLine}
 use Rattle.top_calls.specs.Target.{IsFirstTarget}
 use Rattle.top_calls.specs.Output.{IsFirstGet, IsOtherCommand, IsGet, tree_words}
-use Rattle.top_calls.specs.Command.{Spells, SpellsConnections}
-use Rattle.top_calls.specs.declared.words.CommandName.TheVariants as n
-use Rattle.top_calls.specs.declared.words.Command.{Command}
-use Rattle.top_calls.specs.declared.words.Command.TheVariants.{Get, Check, CheckEager, Tree, Replay, Demo, Serve}
-
-are_connections : (connections : Option ℕ) (words : List (List ℕ)) → SpellsConnections connections words →
-    AreConnections words
-are_connections None words is = subst AreConnections (sym is) tt
-are_connections (Some n) words (is, least, greatest) = subst AreConnections (sym is) (n, least, greatest, refl)
-
--- the words of a command are a command line
-pub is_command_line : (command : Command) (words : List (List ℕ)) → Spells command words → IsCommandLine words
-is_command_line (Get target) words (is, fits) = subst IsCommandLine (sym is) (n.Get, (refl, fits))
-is_command_line Check words is = subst IsCommandLine (sym is) (n.Check, (refl, tt))
-is_command_line CheckEager words is = subst IsCommandLine (sym is) (n.Check, (refl, refl))
-is_command_line Tree words is = subst IsCommandLine (sym is) (n.Tree, (refl, refl))
-is_command_line Replay words is = subst IsCommandLine (sym is) (n.Replay, (refl, refl))
-is_command_line (Demo number) words (is, least, greatest) =
-    subst IsCommandLine (sym is) (n.Demo, (refl, (number, least, greatest, refl)))
-is_command_line (Serve address workers connections) words (rest, is, some, least, greatest, more) =
-    subst IsCommandLine (sym is)
-    (n.Serve, (refl, (some, (workers, least, greatest, refl), are_connections connections rest more)))
+use Rattle.command_words.specs.Command.{Spells}
+use Rattle.command_words.proofs.Commands.{is_command_line}
+use Rattle.command_words.specs.declared.words.CommandName.TheVariants as n
+use Rattle.command_words.specs.declared.words.Command.{Command}
+use Rattle.command_words.specs.declared.words.Command.TheVariants.{Get, Check, CheckEager, Tree, Replay, Demo, Serve}
 
 -- ---- which question the words ask
 
@@ -86,10 +68,10 @@ asks_nothing Replay words is no_get no_tree =
     other_words words [] (codes "replay") is (λ h. absurd (omega (arith, h))) (λ h. absurd (omega (arith, h)))
     (is_command_line Replay words is)
 asks_nothing (Demo number) words is no_get no_tree =
-    other_words words (decimal number ∷ []) (codes "demo") is.0 (λ h. absurd (omega (arith, h)))
+    other_words words (is.0 ∷ []) (codes "demo") is.1 (λ h. absurd (omega (arith, h)))
     (λ h. absurd (omega (arith, h))) (is_command_line (Demo number) words is)
 asks_nothing (Serve address workers connections) words is no_get no_tree =
-    other_words words (address.now ∷ decimal workers ∷ is.0) (codes "serve") is.1 (λ h. absurd (omega (arith, h)))
+    other_words words (address.now ∷ is.0 ∷ is.1) (codes "serve") is.2 (λ h. absurd (omega (arith, h)))
     (λ h. absurd (omega (arith, h))) (is_command_line (Serve address workers connections) words is)
 
 -- a request with a target that is answered today

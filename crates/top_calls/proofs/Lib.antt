@@ -1,5 +1,4 @@
 mod Commands
 mod NotBuilt
-mod Numbers
 mod Slashes
 mod Outputs

@@ -3,7 +3,7 @@ use Rattle.std.proofs.Common.{◌≡◌, ◌⊎◌, inl, inr, ℕ, List, Option,
 use Rattle.std.proofs.Common.{if◌then◌else◌, All, refl, sym, ap, ◌∙◌, subst}
 use Rattle.outside.specs.declared.files.FileEntry.{FileEntry}
 use Rattle.load_rules.specs.FirstReply.{IsReadable}
-use Rattle.top_calls.specs.Words.{IsCommandLine}
+use Rattle.command_words.specs.Words.{IsCommandLine}
 use Rattle.tree_report.specs.Limits.{IsWithinLimits}
 use Rattle.tree_report.specs.declared.refusal.Refusal.{Refusal}
 use Rattle.tree_command.specs.Tree.{IsRefused}
@@ -12,7 +12,7 @@ use Rattle.top_calls.proofs.Commands.{get_is_no_tree, tree_is_command}
 use Rattle.top_calls.specs.Output.{code_of, IsFirstGet, IsOtherApplication, IsNotBuilt, IsFault, GetAnswer}
 use Rattle.top_calls.specs.Output.{too_large, other_file, replies, Output, faulty_words, other_command, answers}
 use Rattle.top_calls.specs.Output.{other_target, tells, TreeAnswer, lists, refuses, IsTreeRefused, WritesOn}
-use Rattle.top_calls.specs.declared.words.CommandName.TheVariants.{Get}
+use Rattle.command_words.specs.declared.words.CommandName.TheVariants.{Get}
 use Rattle.top_calls.specs.declared.outcome.Outcome.{Outcome}
 use Rattle.top_calls.specs.declared.outcome.Outcome.TheVariants.{Done, Negative, FaultyWords, FilesUnread, WriteFault}
 use Rattle.top_calls.specs.declared.outcome.Outcome.TheVariants.{Memory, Refused, NotBuilt}

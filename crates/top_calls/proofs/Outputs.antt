@@ -1,13 +1,14 @@
 -- How an answer's output was written.
-use Rattle.std.proofs.Common.{◌≡◌, ◌⊎◌, inl, inr, ℕ, List, [], Option, Some, None, IfSome, Result, Ok, Err, Bool}
+use Rattle.std.proofs.Common.{◌≡◌, inl, inr, ℕ, List, [], Option, Some, None, IfSome, Result, Ok, Err, Bool}
 use Rattle.std.proofs.Common.{IfOk}
 use Rattle.std.proofs.Common.{true, false, ◌==◌, if◌then◌else◌, append-nil, refl, sym, ap, subst}
 use Rattle.outside.specs.Faults.{Counts}
 use Rattle.outside.specs.Told.{appended}
 use Rattle.outside.specs.declared.files.FileEntry.{FileEntry}
 use Rattle.ruby_types.specs.declared.request.Reply.{Reply}
+use Rattle.http_front_response.specs.Response.{HasReason}
 use Rattle.load_rules.specs.FirstReply.{FirstReply, no_controller, no_tree, no_action, answers as answers_text}
-use Rattle.top_calls.specs.Words.{IsCommandLine}
+use Rattle.command_words.specs.Words.{IsCommandLine}
 use Rattle.top_calls.specs.Output.{code_of, Output, faulty_words, other_command, other_target, answers, tells, WritesOn}
 use Rattle.top_calls.specs.Output.{too_large, other_file, replies, lists, refuses, Writes}
 use Rattle.top_calls.specs.Output.{WritesOne, not_built_line, IsOtherCommand}
@@ -23,10 +24,11 @@ use Rattle.top_calls.specs.declared.outcome.Unbuilt.TheVariants as unbuilt
 
 -- the statuses that a reply has
 pub known_status : (files : List FileEntry) (controller action : List ℕ) (reply : Reply) →
-    FirstReply files controller action reply → (reply.status ≡ 200) ⊎ (reply.status ≡ 404) ⊎ (reply.status ≡ 500)
-known_status files controller action reply (no_controller none) = inr (inl refl)
-known_status files controller action reply (no_tree file at why is fault) = inr (inr refl)
-known_status files controller action reply (no_action file parts is text other) = inr (inl refl)
+    FirstReply files controller action reply → HasReason reply.status
+known_status files controller action reply (no_controller none) = inr (inr (inl refl))
+known_status files controller action reply (no_tree file at why is fault) =
+    inr (inr (inr (inr (inr (inr (inl refl))))))
+known_status files controller action reply (no_action file parts is text other) = inr (inr (inl refl))
 known_status files controller action reply (answers_text file parts is text same) = inl refl
 
 reply_is_reached : (done : Bool) → IsReached (if done then Done else Negative)
@@ -135,12 +137,12 @@ nothing_without_memory output own outcome before now w e =
 pub answer_written : {E : Type 0} (Is : List FileEntry → List ℕ → Outcome → Type 0) (held : Option (List FileEntry))
     (answer : Result Answer E) (outcome : Outcome) (before now : Option (List ℕ)) → IsAfterReading outcome →
     ((files : List FileEntry) (given : Answer) → held ≡ Some files → answer ≡ Ok given →
-    Is files given.bytes.items given.outcome) →
+    Is files given.bytes given.outcome) →
     WritesAnswer answer outcome before now → WritesOn held Is outcome before now
 answer_written Is held (Ok given) outcome before now own is w =
     on_any Is held outcome before now own
-    (λ files e. one_written (Is files) given.bytes.items given.outcome outcome before now (is files given e refl) w)
-    (nothing_without_memory given.bytes.items given.outcome outcome before now w)
+    (λ files e. one_written (Is files) given.bytes given.outcome outcome before now (is files given e refl) w)
+    (nothing_without_memory given.bytes given.outcome outcome before now w)
 answer_written Is held (Err error) outcome before now own is w =
     let P : Outcome → Type 0 = λ s. WritesOn held Is s before now in subst P (sym w.0) w.1
 
@@ -221,10 +223,10 @@ faulty_words_written words (Some all) before faulty =
 -- an answer that has this output and this end
 pub answer_with : {E : Type 0} (Is : List ℕ → Outcome → Type 0) (output : List ℕ) (own : Outcome)
     (given : Result Answer E) → Is output own →
-    IfOk given (λ answer. (answer.bytes.items ≡ output) × (answer.outcome ≡ own)) →
-    IfOk given (λ answer. Is answer.bytes.items answer.outcome)
+    IfOk given (λ answer. (answer.bytes ≡ output) × (answer.outcome ≡ own)) →
+    IfOk given (λ answer. Is answer.bytes answer.outcome)
 answer_with Is output own (Ok answer) is same =
-    subst (Is answer.bytes.items) (sym same.1) (subst (λ bytes. Is bytes own) (sym same.0) is)
+    subst (Is answer.bytes) (sym same.1) (subst (λ bytes. Is bytes own) (sym same.0) is)
 answer_with Is output own (Err error) is same = tt
 
 -- what the words ask is built

@@ -27,7 +27,7 @@ QuestionOutput Listing files output own = TreeAnswer files output own
 
 -- the answer to the question on these files
 abbrev pub IsAnswer : Question → List FileEntry → Answer → Type 0
-IsAnswer question files answer = QuestionOutput question files answer.bytes.items answer.outcome
+IsAnswer question files answer = QuestionOutput question files answer.bytes answer.outcome
 
 -- an end that an answer reaches by itself
 abbrev pub IsReached : Outcome → Type 0
@@ -45,5 +45,5 @@ IsAfterReading outcome = ⊤
 
 -- The answer was written, or there was no memory for one and nothing was.
 abbrev pub WritesAnswer : {E : Type 0} → Result Answer E → Outcome → (before now : Option (List ℕ)) → Type 0
-WritesAnswer (Ok answer) outcome before now = Writes answer.bytes.items answer.outcome outcome before now
+WritesAnswer (Ok answer) outcome before now = Writes answer.bytes answer.outcome outcome before now
 WritesAnswer (Err error) outcome before now = (outcome ≡ Memory) × (now ≡ before)

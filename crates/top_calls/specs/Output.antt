@@ -1,17 +1,17 @@
 -- What a command writes, and how it ends.
 use Rattle.std.specs.Prelude.{◌≡◌, ◌≢◌, ◌⊎◌, ℕ, ◌<◌, ◌==◌, List, [], ◌∷◌, ◌++◌, length, take, codes, All, Any, Option}
-use Rattle.std.specs.Prelude.{IfSome, if◌then◌else◌}
+use Rattle.std.specs.Prelude.{Some, false, IfSome, if◌then◌else◌}
 use Rattle.outside.specs.Told.{appended}
 use Rattle.outside.specs.declared.files.FileEntry.{FileEntry}
 use Rattle.ruby_types.specs.declared.request.Reply.{Reply}
 use Rattle.load_rules.specs.FirstReply.{IsReadable, FirstReply}
-use Rattle.top_calls.specs.Words.{IsCommandLine, IsTarget}
+use Rattle.command_words.specs.Words.{IsCommandLine, IsTarget}
+use Rattle.http_front_response.specs.Response.{response_bytes}
 use Rattle.top_calls.specs.Target.{IsFirstTarget}
 use Rattle.tree_report.specs.Limits.{IsWithinLimits}
 use Rattle.tree_report.specs.Refusals.{refusal_text}
 use Rattle.tree_report.specs.declared.refusal.Refusal.{Refusal}
 use Rattle.tree_command.specs.Tree.{IsTreeListing, IsRefused}
-use Rattle.top_calls.specs.Response.{response_bytes}
 use Rattle.top_calls.specs.declared.outcome.Outcome.{Outcome}
 use Rattle.top_calls.specs.declared.outcome.Outcome.TheVariants.{Done, Negative, FaultyWords, FilesUnread, WriteFault}
 use Rattle.top_calls.specs.declared.outcome.Outcome.TheVariants.{Memory, Refused, NotBuilt}
@@ -82,7 +82,8 @@ pub data GetAnswer (files : List FileEntry) (controller action : List ℕ) : Lis
   other_file : (path : List ℕ) → Any (λ file. (file.path ≡ path) × ¬ (IsReadable file)) files
       → GetAnswer files controller action not_built_line (NotBuilt (unbuilt.File path))
   replies : (reply : Reply) → IsWithinLimits files → All IsReadable files → FirstReply files controller action reply
-      → GetAnswer files controller action (response_bytes reply (generation_of files)) (outcome_of reply)
+      → GetAnswer files controller action (response_bytes reply (Some (generation_of files)) false false)
+      (outcome_of reply)
 
 -- The output of `tree` on an application's files, and how it ends: its constants and their files, or one line that
 -- says why the application is refused.

@@ -1,19 +1,19 @@
 //! What a command answers on an application's files.
-ghost use Rattle.std.specs.Prelude.{◌≡◌, ◌⊎◌, ℕ, List, IfOk};
+ghost use Rattle.std.specs.Prelude.{◌≡◌, ℕ, List, Some, false, IfOk};
 ghost use Rattle.tree_report.specs.Limits.{IsWithinLimits};
-ghost use Rattle.top_calls.specs.Command.{Spells};
+ghost use Rattle.command_words.specs.Command.{Spells};
+ghost use Rattle.http_front_response.specs.Response.{HasReason, response_bytes};
 ghost use Rattle.top_calls.specs.Output.{generation_of, outcome_of, not_built_line, GetAnswer, TreeAnswer};
-ghost use Rattle.top_calls.specs.Response.{response_bytes};
 ghost use Rattle.top_calls.specs.Answers.{Asks, IsAnswer};
 ghost use Rattle.top_calls.specs.declared.outcome.Outcome.TheVariants.{NotBuilt};
 
 use crate::outcome::{Outcome, Unbuilt};
-use crate::response::print_response;
 use crate::target::{Target, first_target};
-use crate::words::Command;
+use command_words::Command;
+use http_front_response::print_response;
 use load_rules::{FirstRefusal, first_reply};
 use outside::{FileEntry, Snapshot};
-use ruby_types::Reply;
+use ruby_types::{Reply, Text};
 use std::alloc::{AllocError, Global};
 use tree_command::{ListingFault, list_tree};
 use tree_report::is_within_limits;
@@ -30,7 +30,7 @@ pub enum Question<'a> {
 /// The bytes that a command writes, and how it ends where they are written.
 #[derive(Drop)]
 pub struct Answer {
-    pub bytes: Vec<u8>,
+    pub bytes: Text,
     pub outcome: Outcome,
 }
 
@@ -51,11 +51,10 @@ pub fn question_of<'a>(command: &Command<'a>) -> Result<Question<'a>, Unbuilt>
 
 /// The answer to what is not built yet.
 pub fn not_built(alloc: Global, what: Unbuilt) -> Result<Answer, AllocError>
-    ensures { IfOk result (λ answer. (answer.bytes.items ≡ not_built_line) × (answer.outcome ≡ NotBuilt what)) }
+    ensures { IfOk result (λ answer. (answer.bytes ≡ not_built_line) × (answer.outcome ≡ NotBuilt what)) }
 {
-    let bytes = Vec::from_slice(alloc, b"not built yet\n")?;
     Ok(Answer {
-        bytes,
+        bytes: Text::from_bytes(alloc, b"not built yet\n")?,
         outcome: Outcome::NotBuilt(what),
     })
 }
@@ -83,13 +82,12 @@ fn generation(files: &[FileEntry]) -> u32
 
 /// The answer with this reply.
 fn replied(alloc: Global, reply: &Reply, files: &[FileEntry]) -> Result<Answer, AllocError>
-    requires { (reply.now.status ≡ 200) ⊎ (reply.now.status ≡ 404) ⊎ (reply.now.status ≡ 500) }
-    ensures { IfOk result (λ answer. (answer.bytes.items ≡ response_bytes reply.now (generation_of files.now))
+    requires { HasReason reply.now.status }
+    ensures { IfOk result (λ answer. (answer.bytes ≡ response_bytes reply.now (Some (generation_of files.now)) false false)
         × (answer.outcome ≡ outcome_of reply.now)) }
 {
-    let bytes = print_response(alloc, reply, generation(files))?;
     Ok(Answer {
-        bytes,
+        bytes: print_response(alloc, reply, Some(generation(files)), false, false)?,
         outcome: outcome_of(reply),
     })
 }
@@ -103,7 +101,7 @@ fn answer_within(
 ) -> Result<Answer, AllocError>
     requires { IsWithinLimits snapshot.now.files }
     ensures { IfOk result (λ answer. GetAnswer snapshot.now.files target.now.controller.now target.now.action.now
-        answer.bytes.items answer.outcome) }
+        answer.bytes answer.outcome) }
 {
     match first_reply(alloc, snapshot, target.controller, target.action) {
         Ok(reply) => replied(alloc, &reply, snapshot.files.as_slice()),
@@ -119,7 +117,7 @@ fn answer_request(
     snapshot: &Snapshot,
 ) -> Result<Answer, AllocError>
     ensures { IfOk result (λ answer. GetAnswer snapshot.now.files target.now.controller.now target.now.action.now
-        answer.bytes.items answer.outcome) }
+        answer.bytes answer.outcome) }
 {
     if is_within_limits(snapshot.files.as_slice()) {
         answer_within(alloc, target, snapshot)
@@ -130,17 +128,17 @@ fn answer_request(
 
 /// The constants and their files, or the line that says why the application is refused.
 fn answer_listing(alloc: Global, snapshot: &Snapshot) -> Result<Answer, AllocError>
-    ensures { IfOk result (λ answer. TreeAnswer snapshot.now.files answer.bytes.items answer.outcome) }
+    ensures { IfOk result (λ answer. TreeAnswer snapshot.now.files answer.bytes answer.outcome) }
 {
     match list_tree(alloc, snapshot) {
         Ok(bytes) => Ok(Answer {
-            bytes,
+            bytes: Text::from_vec(alloc, bytes)?,
             outcome: Outcome::Done,
         }),
         Err(ListingFault::Refused(refusal)) => {
-            let bytes = refusal.line(alloc)?;
+            let line = refusal.line(alloc)?;
             Ok(Answer {
-                bytes,
+                bytes: Text::from_vec(alloc, line)?,
                 outcome: Outcome::Refused,
             })
         }

@@ -12,7 +12,7 @@
 //!
 //! | Step | Call | Reads or writes |
 //! |---|---|---|
-//! | The words are read | `words::parse_words` | nothing |
+//! | The words are read | `command_words::parse_words` | nothing |
 //! | What the command asks, or that it is not built yet | `answer::question_of` | nothing |
 //! | The files | `Tree::read_all` of the tree that is handed in | the tree, once |
 //! | The answer to the question on these files | `answer::answer_to` | nothing |
@@ -40,9 +40,7 @@
 pub mod answer;
 pub mod once;
 pub mod outcome;
-pub mod response;
 pub mod target;
-pub mod words;
 
 pub use once::{once_main, run_once};
 pub use outcome::{Outcome, Unbuilt};

@@ -1,15 +1,15 @@
 //! The commands that end by themselves.
 ghost use Rattle.std.specs.Prelude.{◌≡◌, ◌≢◌, ◌⊎◌, ◌==◌, IfSome, IfOk};
 ghost use Rattle.outside.specs.Faults.{Counts};
-ghost use Rattle.top_calls.specs.Words.{IsCommandLine};
+ghost use Rattle.command_words.specs.Words.{IsCommandLine};
 ghost use Rattle.top_calls.specs.Output.{code_of, IsOtherCommand, IsTreeRefused, Output, IsNotBuilt, IsFault, WritesOn};
 ghost use Rattle.top_calls.specs.Answers.{IsReached, IsAfterReading, WritesAnswer, QuestionOutput};
 ghost use Rattle.top_calls.specs.declared.outcome.Outcome.{Outcome as OutcomeValue};
-ghost use Rattle.top_calls.specs.declared.outcome.Outcome.TheVariants.{FaultyWords, Memory};
+ghost use Rattle.top_calls.specs.declared.outcome.Outcome.TheVariants.{FaultyWords};
 
 use crate::answer::{Answer, Question, answer_to, not_built, question_of};
 use crate::outcome::Outcome;
-use crate::words::parse_words;
+use command_words::parse_words;
 use outside::{Delivery, Sink, Source, Tree, TreeAns, write_all};
 use ruby_types::TextList;
 use std::alloc::{AllocError, Global};
@@ -25,7 +25,7 @@ fn write_answer<O: Sink>(answer: Result<Answer, AllocError>, out: &mut O) -> Out
     let Ok(Answer { bytes, outcome }) = answer else {
         return Outcome::Memory;
     };
-    match write_all(out, bytes.as_slice()) {
+    match write_all(out, bytes.as_bytes()) {
         Delivery::Whole => outcome,
         Delivery::Failed => Outcome::WriteFault,
     }
@@ -63,17 +63,15 @@ pub fn run_once<S: Source, T: Tree, O: Sink>(
     ensures written { WritesOn (T.holds tree.new) (Output words.now) result (O.written out.old) (O.written out.new) }
     ensures silent { result ≡ FaultyWords → O.written out.new ≡ O.written out.old }
     ensures faulty { result ≡ FaultyWords → ¬ (IsCommandLine words.now) }
-    ensures command { (result ≡ FaultyWords) ⊎ (result ≡ Memory) ⊎ IsCommandLine words.now }
+    ensures command { (result ≡ FaultyWords) ⊎ IsCommandLine words.now }
     ensures tree_faults { Counts (code_of result == 3) (T.faults tree.old) (T.faults tree.new) }
     ensures write_faults { Counts (code_of result == 4) (O.faults out.old) (O.faults out.new) }
     ensures unread { IsOtherCommand words.now → tree.new ≡ tree.old }
     ensures script { script.new ≡ script.old }
 {
     let _ = script;
-    let command = match parse_words(alloc, words) {
-        Ok(Some(command)) => command,
-        Ok(None) => return Outcome::FaultyWords,
-        Err(_) => return Outcome::Memory,
+    let Some(command) = parse_words(words) else {
+        return Outcome::FaultyWords;
     };
     match question_of(&command) {
         Ok(question) => ask(alloc, &question, tree, out),
@@ -102,7 +100,7 @@ pub fn once_main<S: Source, T: Tree, O: Sink>(
 
     // Each fault has its status, exactly where it comes.
     ensures faulty { result ≡ 2 → ¬ (IsCommandLine words.now) }
-    ensures command { (result ≡ 2) ⊎ ((result ≡ 5) ⊎ IsCommandLine words.now) }
+    ensures command { (result ≡ 2) ⊎ IsCommandLine words.now }
     ensures tree_faults { Counts (result == 3) (T.faults tree.old) (T.faults tree.new) }
     ensures write_faults { Counts (result == 4) (O.faults out.old) (O.faults out.new) }
     ensures refused { IfSome (T.holds tree.new) (λ files. result ≡ 6 → IsTreeRefused words.now files) }

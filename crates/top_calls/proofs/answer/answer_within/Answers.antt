@@ -1,10 +1,10 @@
-use Rattle.std.proofs.Common.{◌≡◌, List, IfOk, subst}
+use Rattle.std.proofs.Common.{◌≡◌, List, Some, false, IfOk, subst}
 use Rattle.outside.specs.declared.files.FileEntry.{FileEntry}
+use Rattle.http_front_response.specs.Response.{response_bytes}
 use Rattle.load_rules.specs.FirstReply.{IsRefusalOf}
 use Rattle.load_rules.specs.declared.refusal.FirstRefusal.{FirstRefusal}
 use Rattle.load_rules.specs.declared.refusal.FirstRefusal.TheVariants as refusal
 use Rattle.top_calls.specs.Output.{GetAnswer, replies, other_file, generation_of, outcome_of}
-use Rattle.top_calls.specs.Response.{response_bytes}
 use Rattle.top_calls.specs.declared.answer.Answer.{Answer}
 use Rattle.top_calls.proofs.Outputs.{answer_with}
 use Rattle.top_calls.proofs.answer.answer_within.Goals as goal
@@ -12,7 +12,7 @@ use Rattle.top_calls.proofs.answer.answer_within.Goals as goal
 pub returns-in-Ok : goal.returns-in-Ok
 returns-in-Ok c =
     let P : List FileEntry → Type 0 = λ files. IfOk c.replied.result (λ (answer : Answer).
-    (answer.bytes.items ≡ response_bytes c.in-Ok.reply (generation_of files))
+    (answer.bytes ≡ response_bytes c.in-Ok.reply (Some (generation_of files)) false false)
     × (answer.outcome ≡ outcome_of c.in-Ok.reply)) in
     answer_with
     (GetAnswer c.args.snapshot.now.files c.args.target.now.controller.now c.args.target.now.action.now) _ _

@@ -1,17 +1,18 @@
 -- Which command lines there are, without the program's name.
-use Rattle.std.specs.Prelude.{◌≡◌, ◌≢◌, ℕ, ◌≤◌, List, [], ◌∷◌, Option, Some, None, All, codes, if◌then◌else◌, ⊤}
-use Rattle.std.specs.Fmt.{decimal}
+use Rattle.std.specs.Prelude.{◌≡◌, ◌≢◌, ℕ, List, [], ◌∷◌, Option, Some, None, codes, if◌then◌else◌, IsTrue, ⊤}
 use Rattle.std.specs.Str.{bytes_eq}
-use Rattle.top_calls.specs.declared.words.CommandName.{CommandName}
-use Rattle.top_calls.specs.declared.words.CommandName.TheVariants.{Get, Check, Tree, Replay, Demo, Serve}
+use Rattle.word_forms.specs.Numbers.{number_of}
+use Rattle.word_forms.specs.Targets.{is_target}
+use Rattle.command_words.specs.declared.words.CommandName.{CommandName}
+use Rattle.command_words.specs.declared.words.CommandName.TheVariants.{Get, Check, Tree, Replay, Demo, Serve}
 
--- a request's target: it begins with `/` and has visible ASCII bytes alone
+-- a request's target
 abbrev pub IsTarget : List ℕ → Type 0
-IsTarget word = ((rest : List ℕ) × (word ≡ 47 ∷ rest)) × All (λ b. (33 ≤ b) × (b ≤ 126)) word
+IsTarget word = IsTrue (is_target word)
 
--- a number from 1 to `most`, in decimal digits without a leading 0
+-- a number from 1 to `most`
 abbrev pub IsNumber : (most : ℕ) → List ℕ → Type 0
-IsNumber most word = (n : ℕ) × (1 ≤ n) × (n ≤ most) × (word ≡ decimal n)
+IsNumber most word = (n : ℕ) × (number_of most word ≡ Some n)
 
 -- an address is any word but the empty one
 abbrev pub IsAddress : List ℕ → Type 0
