@@ -11,8 +11,8 @@ use Rattle.program_theory.specs.Replies.{blame_error}
 use Rattle.load_core.specs.declared.whole.Loaded.{Loaded}
 use Rattle.load_core.specs.declared.whole.Loaded.TheVariants as loaded
 
--- Done: the task is known, and in the table. Failed: it stays unknown, and this is what its blame is told as. Memory may
--- want at any time.
+-- Done: the task is known, and in the table. Failed: it stays unknown, and this is what its blame is told as. Memory
+-- may want at any time.
 abbrev pub EndsAs : Rules Task Value RubyError NoReply → Task → (Task → Option Value) → Loaded → Type 0
 EndsAs r task K loaded.Done = (v : Value) × (known r task ≡ Some v) × (K task ≡ Some v)
 EndsAs r task K (loaded.Failed error) = (known r task ≡ None) × (error ≡ blame_error (blame r task))
