@@ -83,7 +83,8 @@ fn generation(files: &[FileEntry]) -> u32
 /// The answer with this reply.
 fn replied(alloc: Global, reply: &Reply, files: &[FileEntry]) -> Result<Answer, AllocError>
     requires { HasReason reply.now.status }
-    ensures { IfOk result (λ answer. (answer.bytes ≡ response_bytes reply.now (Some (generation_of files.now)) false false)
+    ensures { IfOk result (λ answer.
+        (answer.bytes ≡ response_bytes reply.now (Some (generation_of files.now)) false false)
         × (answer.outcome ≡ outcome_of reply.now)) }
 {
     Ok(Answer {
