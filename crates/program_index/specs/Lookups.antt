@@ -34,6 +34,10 @@ pub record IsUsedAt (p : Content) (path : List ℕ) (used : Used) : Type 0 where
   pub at : slice_get (files_of p) used.number ≡ Some (Some file)
   pub constant : file.constant ≡ used.text.now.constant
 
+-- the constant that the used file with this path is the file of
+abbrev pub constant_at : Content → (path : List ℕ) → Option Path
+constant_at p path = option_map (λ f. f.constant) (file_at (used_files p) path)
+
 -- the file of this number owns the path, and this is the code of what it says of it
 pub record IsRow (p : Content) (path : Path) (row : Row) : Type 0 where
   pub file : UsedFile

@@ -7,7 +7,7 @@ ghost use Rattle.program_lookups.specs.Codes.{StandsAt};
 ghost use Rattle.program_outcomes.specs.Outcomes.{flat};
 ghost use Rattle.program_index.specs.Content.{used_files};
 ghost use Rattle.program_index.specs.Lookups.{HasRow, IsOpenedAt, IsRow, IsUnowned, IsUsedAt, LacksRow, OpensNothing};
-ghost use Rattle.program_index.specs.Lookups.{asks_of, place_in};
+ghost use Rattle.program_index.specs.Lookups.{asks_of, constant_at, place_in};
 
 use crate::controllers::controller;
 use crate::program::Program;
@@ -85,6 +85,16 @@ impl Program {
         };
         match text_at(self.texts.as_slice(), number) {
             Some(text) => Some(Used { number, text }),
+            None => None,
+        }
+    }
+
+    /// The constant that the file with this path is the file of. None where no file that is used has the path.
+    pub fn constant_at(&self, path: &Text) -> Option<&CPath>
+        ensures { option_map (λ constant. constant.now) result ≡ constant_at self.now path.now }
+    {
+        match self.used_at(path) {
+            Some(used) => Some(&used.text.constant),
             None => None,
         }
     }

@@ -7,7 +7,7 @@ ghost use Rattle.load_sections.specs.Theories.{IsOfTheory};
 use by_need::Theory;
 use by_need_loader::{Failure, Program};
 use request_actor::Requests;
-use std::alloc::AllocError;
+use std::alloc::{AllocError, Global};
 
 /// A matter whose tasks are loaded by need.
 pub trait Loads: Requests {
@@ -25,6 +25,7 @@ pub trait Loads: Requests {
 
     /// Why a task stays unknown whose load failed so.
     fn unknown(
+        alloc: Global,
         failure: Failure<
             Self::Task,
             <Self::Theory as Theory>::Error,

@@ -1,2 +1,4 @@
 pub mod Turns
+pub mod Loads
+pub mod Found
 pub mod Then

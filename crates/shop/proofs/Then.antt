@@ -46,12 +46,16 @@ module _ {M T V P Q R F : Type 0} (f : Facts T V P Q R F) (equal : SameIsEqual f
       subst (λ (s : State M T V P Q R F). IsNeeded f s k task) (sym is.state)
       (needed_stays f equal 64 k seen d.state.history place task legal is.legal lags runs was)
 
+  -- an exclusive seat's table is as it was
+  pub table_then : is_exclusive (seat_row (after f 64 seen).seats k) ≡ true → d.state.table ≡ (after f 64 seen).table
+  table_then owns =
+      ap (λ (s : State M T V P Q R F). s.table) is.state
+      ∙ table_stays f equal 64 k seen d.state.history legal is.legal lags owns
+
   -- what an exclusive seat's table lacked it lacks
   pub absent_then : (task : T) → is_exclusive (seat_row (after f 64 seen).seats k) ≡ true →
       is_in f task (after f 64 seen).table ≡ false → is_in f task d.state.table ≡ false
-  absent_then task owns was =
-      ap (λ (s : State M T V P Q R F). is_in f task s.table) is.state
-      ∙ (ap (is_in f task) (table_stays f equal 64 k seen d.state.history legal is.legal lags owns) ∙ was)
+  absent_then task owns was = ap (is_in f task) (table_then owns) ∙ was
 
   -- what a section was for it is for
   pub section_then : (want : Want M T V P Q R F) → section_want (after f 64 seen) k ≡ Some want →

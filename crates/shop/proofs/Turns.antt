@@ -1,7 +1,9 @@
 -- What a pass holds after a turn.
-use Rattle.std.specs.Prelude.{Result, Ok, Err, IfOk, OnOk}
-use Rattle.std.proofs.Common.{◌≡◌, ◌≢◌, ℕ, ◌<◌, ◌≤◌, List, [], ◌∷◌, ◌++◌, Option, Some, None, refl, sym, ap, ◌∙◌, subst}
-use Rattle.std.proofs.Common.{append_assoc, ◌⊎◌, inl, inr, Bool, true, false, if◌then◌else◌, nat_le, length, max, arith}
+use Rattle.std.specs.Prelude.{Result, Ok, Err, IfOk, OnOk, OnErr}
+use Rattle.std.proofs.Common.{◌≡◌, ◌≢◌, ℕ, ◌<◌, ◌≤◌, List, [], ◌∷◌}
+use Rattle.std.proofs.Common.{◌++◌, Option, Some, None, refl, sym, ap, ◌∙◌, subst}
+use Rattle.std.proofs.Common.{append_assoc, ◌⊎◌, inl, inr, Bool, true}
+use Rattle.std.proofs.Common.{false, if◌then◌else◌, nat_le, length, max, arith}
 use Rattle.std.proofs.Math.Nat.{max-eq_left, max-eq_right}
 use Rattle.turn_lock.specs.Entries.{NoneOf, Lags, Begins, longer}
 use Rattle.turn_lock.specs.Tickets.{TicketView, GainsOne, after_leaving, split_ticket}
@@ -15,7 +17,7 @@ use Rattle.shop_base.specs.declared.row.PassRow.{PassRow}
 use Rattle.shop_base.specs.Rows.{seat_row, at_rest}
 use Rattle.shop_base.specs.Passes.{PassView, seat_of, entry, moved, Made}
 use Rattle.shop_base.proofs.Later.{lags_row, unused_row, generation_of_longer}
-use Rattle.shop_desk.specs.Ledgers.{Ledger, desk_row, OneMore}
+use Rattle.shop_desk.specs.Ledgers.{Ledger, desk_row, OneMore, setting_aside}
 use Rattle.shop.specs.Held.{pass_view, IsHeld}
 
 -- one of two lists has what both have
@@ -122,7 +124,8 @@ module _ {M T V P Q R F : Type 0} where
   unmoved before d t entered left sought p view_is is_entered is_left lags row_is same =
       let whole : left ≡ after_leaving (λ x. x.state.history) desk_row before
       (record t { seen = before.state.history; turn = Some before }) =
-      is_left ∙ (λ i. after_leaving (λ (x : Ledger M T V P Q R F). x.state.history) desk_row (same i) (is_entered i)) in
+      is_left ∙ (λ i. after_leaving (λ (x : Ledger M T V P Q R F). x.state.history) desk_row (same i) (is_entered
+      i)) in
       let seen_is : left.seen ≡ before.state.history =
       ap (λ (x : TicketView (Ledger M T V P Q R F) (Entry M T V P Q R F) PassRow). x.seen) whole in
       subst (λ (x : PassView M T V P Q R F).
@@ -146,6 +149,24 @@ module _ {M T V P Q R F : Type 0} where
     ap (desk_row before) same ∙ (row_is ∙ ap (λ (x : PassView M T V P Q R F). x.row) view_is),
   )
 
+  -- a turn that left the pass this row
+  pub moved_turn : (before d : Ledger M T V P Q R F)
+      (t entered left : TicketView (Ledger M T V P Q R F) (Entry M T V P Q R F) PassRow) (sought : Option T)
+      (p : PassView M T V P Q R F) (n : ℕ) (row : PassRow) → pass_view t sought ≡ p →
+      entered ≡ record t { seen = before.state.history; turn = Some before } →
+      left ≡ after_leaving (λ x. x.state.history) desk_row d entered → n ≡ t.number → desk_row d n ≡ row →
+      pass_view left sought ≡ moved p row left.seen
+  moved_turn before d t entered left sought p n row view_is is_entered is_left same row_is =
+      let whole : left ≡ after_leaving (λ x. x.state.history) desk_row d
+      (record t { seen = before.state.history; turn = Some before }) =
+      is_left ∙ ap (after_leaving (λ (x : Ledger M T V P Q R F). x.state.history) desk_row d) is_entered in
+      let seen_is : left.seen ≡ d.state.history =
+      ap (λ (x : TicketView (Ledger M T V P Q R F) (Entry M T V P Q R F) PassRow). x.seen) whole in
+      let same_row : desk_row d t.number ≡ row = ap (desk_row d) (sym same) ∙ row_is in
+      subst (λ (x : PassView M T V P Q R F). pass_view left sought ≡ moved x row left.seen) view_is
+      (ap (λ (x : TicketView (Ledger M T V P Q R F) (Entry M T V P Q R F) PassRow). pass_view x sought) whole
+      ∙ (λ i. moved (pass_view t sought) (same_row i) (sym seen_is i)))
+
   -- a turn in which the desk gained this entry of the pass
   pub made_turn : (before d : Ledger M T V P Q R F)
       (t entered left : TicketView (Ledger M T V P Q R F) (Entry M T V P Q R F) PassRow) (sought : Option T)
@@ -161,6 +182,26 @@ module _ {M T V P Q R F : Type 0} where
         is = seen_is ∙ (gained ∙ (λ i. lags.is i ++ entry (same i) kept ∷ []));
         none = lags.none;
       })
+
+  -- a turn that left the history as it was
+  pub lags_turn : (before d : Ledger M T V P Q R F)
+      (t entered left : TicketView (Ledger M T V P Q R F) (Entry M T V P Q R F) PassRow) (sought : Option T)
+      (p : PassView M T V P Q R F) → pass_view t sought ≡ p →
+      left ≡ after_leaving (λ x. x.state.history) desk_row d entered →
+      Lags seat_of t.number t.seen before.state.history → d.state.history ≡ before.state.history →
+      Lags seat_of p.number p.seen left.seen
+  lags_turn before d t entered left sought p view_is is_left lags same =
+      let seen_is : left.seen ≡ before.state.history =
+      ap (λ (x : TicketView (Ledger M T V P Q R F) (Entry M T V P Q R F) PassRow). x.seen) is_left ∙ same in
+      subst (λ (x : PassView M T V P Q R F). Lags seat_of x.number x.seen left.seen) view_is
+      (subst (Lags seat_of t.number t.seen) (sym seen_is) lags)
+
+  -- setting room aside leaves the history as it was, whatever comes of it
+  pub aside_history : {A E : Type 0} (r : Result A E) (before d : Ledger M T V P Q R F) (k entries values : ℕ) →
+      OnOk r (d ≡ setting_aside before k entries values) → OnErr r (d ≡ before) →
+      d.state.history ≡ before.state.history
+  aside_history (Ok a) before d k entries values ok err = ap (λ (x : Ledger M T V P Q R F). x.state.history) ok
+  aside_history (Err e) before d k entries values ok err = ap (λ (x : Ledger M T V P Q R F). x.state.history) err
 
   -- entries of others after entries of others
   pub lags_later : (k : ℕ) (a b c : List (Entry M T V P Q R F)) → Lags seat_of k a b → Lags seat_of k b c →

@@ -1,2 +1,3 @@
 pub mod Held
+pub mod Leaving
 pub mod Seeking

@@ -9,7 +9,11 @@
 //! | `start_running`, `done_running` | Share; Unshare |
 //! | `begin`, `end`, `refuse`, `abandon` | Begin; End; Refuse; Refuse for want of memory |
 //! | `permit_begin`, `permit_end` | Yield; Retake |
-//! | `split`, `join` | none |
+//! | `start_loading` | Take, Seek or none, as it answers `Taken`, `Seeking` or `Present` |
+//! | `try_loading`, `await_loading` | Take or none; Take |
+//! | `define` | Define |
+//! | `done_loading`, `leave_section` | Release, and Resume where others go first |
+//! | `room`, `lookup`, `program`, `split`, `join` | none |
 //!
 //! Who finds a share or the exclusive side busy sleeps until another turn has changed that (`Bell`). What closes
 //! something takes no memory and can't fail: its room was set aside by what opened it.
@@ -24,17 +28,34 @@
 //! | `begin`, which answers 2 | runs the request whose Begin is at place 2 | 4 |
 //! | `end` | shares | 1 |
 //! | `done_running` | rests | 0 |
+//!
+//! If its request needs a task that isn't loaded yet, it loads it between `begin` and `end`:
+//!
+//! | Call | Its row then | Entries set aside |
+//! |---|---|---|
+//! | `start_loading`, which answers `Taken` | is exclusive for the load | 6 |
+//! | `room` for one value | is exclusive for the load | 7, and one value |
+//! | `define` | is exclusive for the load | 6 |
+//! | `done_loading` | runs the request | 4 |
+//!
+//! Where `start_loading` answers `Seeking` the pass has put its share aside, and `await_loading` takes the load as soon
+//! as the others have put theirs aside or given them back.
 #![tactic(auto)]
 
 mod bell;
+mod copies;
+mod leaving;
+mod loading;
 mod pass;
 mod permits;
+mod reading;
 mod receipt;
 mod running;
 mod shop;
 
+pub use copies::Copies;
 pub use pass::Pass;
 pub use receipt::Receipt;
 pub use shop::Shop;
-pub use shop_desk::BeginFault;
+pub use shop_desk::{BeginFault, Loading};
 pub use turn_lock::SplitFault;

@@ -23,6 +23,7 @@
 mod desk;
 mod loading;
 mod permits;
+mod reading;
 mod reloading;
 mod running;
 mod spares;

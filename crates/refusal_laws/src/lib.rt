@@ -1,0 +1,4 @@
+//! Files that have a program are not refused.
+#![tactic(auto)]
+
+pub mod laws;

@@ -1,0 +1,5 @@
+pub mod Rows
+pub mod Stages
+pub mod Answering
+pub mod Going
+pub mod Moving

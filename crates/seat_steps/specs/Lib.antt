@@ -1,0 +1,3 @@
+pub mod Theories
+pub mod Stepping
+pub mod Standing
