@@ -19,6 +19,7 @@ use Rattle.shop_base.specs.Passes.{PassView, seat_of, entry, moved, Made}
 use Rattle.shop_base.proofs.Later.{lags_row, unused_row, generation_of_longer}
 use Rattle.shop_desk.specs.Ledgers.{Ledger, desk_row, OneMore, setting_aside}
 use Rattle.shop.specs.Held.{pass_view, IsHeld}
+use Rattle.shop.specs.Turned.{Turned}
 
 -- one of two lists has what both have
 longer_is : {A : Type 0} (Holds : List A → Type 0) (a b : List A) → Holds a → Holds b → Holds (longer a b)
@@ -202,6 +203,31 @@ module _ {M T V P Q R F : Type 0} where
       d.state.history ≡ before.state.history
   aside_history (Ok a) before d k entries values ok err = ap (λ (x : Ledger M T V P Q R F). x.state.history) ok
   aside_history (Err e) before d k entries values ok err = ap (λ (x : Ledger M T V P Q R F). x.state.history) err
+
+  -- a turn in which this was made of the desk
+  pub turned_is : (f : Facts T V P Q R F) (Makes : ℕ → Ledger M T V P Q R F → Ledger M T V P Q R F → Type 0)
+      (before d : Ledger M T V P Q R F)
+      (t entered left : TicketView (Ledger M T V P Q R F) (Entry M T V P Q R F) PassRow) (sought : Option T)
+      (p : PassView M T V P Q R F) (n : ℕ) → pass_view t sought ≡ p →
+      entered ≡ record t { seen = before.state.history; turn = Some before } →
+      left ≡ after_leaving (λ x. x.state.history) desk_row d entered →
+      Lags seat_of t.number t.seen before.state.history → desk_row before t.number ≡ t.row → n ≡ t.number →
+      IsAfter f 64 before.state → IsAfter f 64 d.state → Makes n before d →
+      Turned f (Makes p.number) p (pass_view left sought)
+  turned_is f Makes before d t entered left sought p n view_is is_entered is_left lags row_is same was is made =
+      let whole : left ≡ after_leaving (λ x. x.state.history) desk_row d
+      (record t { seen = before.state.history; turn = Some before }) =
+      is_left ∙ ap (after_leaving (λ (x : Ledger M T V P Q R F). x.state.history) desk_row d) is_entered in
+      subst (λ (x : PassView M T V P Q R F). Turned f (Makes x.number) x (pass_view left sought)) view_is (record {
+        before = before;
+        now = d;
+        was_after = was;
+        is_after = is;
+        lags = lags;
+        row = row_is;
+        makes_it = subst (λ k. Makes k before d) same made;
+        is = ap (λ (x : TicketView (Ledger M T V P Q R F) (Entry M T V P Q R F) PassRow). pass_view x sought) whole;
+      })
 
   -- entries of others after entries of others
   pub lags_later : (k : ℕ) (a b c : List (Entry M T V P Q R F)) → Lags seat_of k a b → Lags seat_of k b c →

@@ -1,3 +1,4 @@
 pub mod Held
 pub mod Leaving
 pub mod Seeking
+pub mod Turned

@@ -15,6 +15,8 @@
 //! | `done_loading`, `leave_section` | Release, and Resume where others go first |
 //! | `room`, `lookup`, `program`, `split`, `join` | none |
 //!
+//! `turn` is for calls that other crates add: one turn, in which a [`TurnAct`] is done.
+//!
 //! Who finds a share or the exclusive side busy sleeps until another turn has changed that (`Bell`). What closes
 //! something takes no memory and can't fail: its room was set aside by what opened it.
 //!
@@ -52,10 +54,12 @@ mod reading;
 mod receipt;
 mod running;
 mod shop;
+mod turn_acts;
 
 pub use copies::Copies;
 pub use pass::Pass;
 pub use receipt::Receipt;
 pub use shop::Shop;
 pub use shop_desk::{BeginFault, Loading};
+pub use turn_acts::TurnAct;
 pub use turn_lock::SplitFault;
