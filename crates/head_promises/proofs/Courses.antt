@@ -23,7 +23,7 @@ use Rattle.head_promises.specs.Courses.{Checked, IsFreshBy, HeadCourse, reloads}
 
 module _ {M T V P Q R F : Type 0} where
   -- an entry of the seat is its act
-  one_gained : (k : ℕ) (kept : Kept M T V P Q R F) (before : List (Entry M T V P Q R F)) →
+  pub one_gained : (k : ℕ) (kept : Kept M T V P Q R F) (before : List (Entry M T V P Q R F)) →
       Gains k (kept ∷ []) before (before ++ entry k kept ∷ [])
   one_gained k kept before = record {
     more = entry k kept ∷ [];
@@ -32,7 +32,7 @@ module _ {M T V P Q R F : Type 0} where
   }
 
   -- turns, and then entries of other seats
-  gains_later : (k : ℕ) (acts : List (Kept M T V P Q R F)) (a b : List (Entry M T V P Q R F))
+  pub gains_later : (k : ℕ) (acts : List (Kept M T V P Q R F)) (a b : List (Entry M T V P Q R F))
       (kept : Kept M T V P Q R F) (c : List (Entry M T V P Q R F)) → Gains k acts a b → (made : Made k kept b c) →
       Gains k acts a (b ++ made.between)
   gains_later k acts a b kept c gains made =
@@ -56,13 +56,13 @@ module _ {M T V P Q R F : Type 0} (f : Facts T V P Q R F) (has_stamps : P → Li
   )
 
   -- a Begin leaves the program
-  begin_program : (h : List (Entry M T V P Q R F)) (k : ℕ) (q : Q) → IsLegal f seat_limit h →
+  pub begin_program : (h : List (Entry M T V P Q R F)) (k : ℕ) (q : Q) → IsLegal f seat_limit h →
       (after f seat_limit (h ++ entry k (Begin q) ∷ [])).counts.program ≡ (after f seat_limit h).counts.program
   begin_program h k q legal =
       ap (λ (s : State M T V P Q R F). s.counts.program) (after-append f seat_limit h (entry k (Begin q) ∷ []) legal)
 
   -- the acts of a run and the Unshare behind it, as they were gained
-  run_gained : (k : ℕ) (first last : Kept M T V P Q R F) (sections : List (Kept M T V P Q R F))
+  pub run_gained : (k : ℕ) (first last : Kept M T V P Q R F) (sections : List (Kept M T V P Q R F))
       (checked begun loaded ended now : List (Entry M T V P Q R F)) (made : Made k first checked begun) →
       Gains k sections begun loaded → Made k last loaded ended → Made k Unshare ended now →
       Gains k ((first ∷ (sections ++ last ∷ [])) ++ Unshare ∷ []) (checked ++ made.between) now

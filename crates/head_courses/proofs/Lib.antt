@@ -1,0 +1,4 @@
+pub mod Quiet
+pub mod Keeping
+pub mod Checking
+pub mod Done

@@ -1,0 +1,4 @@
+pub mod Steady
+pub mod Sections
+pub mod Rooms
+pub mod Whole
